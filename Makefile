@@ -1,0 +1,5 @@
+.PHONY: test
+
+# The whole gate: proofs, must-fail edits, comparisons.
+test:
+	.ci/run

@@ -1,0 +1,13 @@
+pub mod Halves
+pub mod Greatest
+pub mod Stages
+pub mod Conflict
+pub mod Join
+pub mod Trail
+pub mod After
+pub mod Refusal
+pub mod Known
+pub mod Promises
+pub mod Reading
+pub mod Silent
+pub mod Smear

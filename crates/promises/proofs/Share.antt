@@ -1,0 +1,100 @@
+-- The grants of a run, summed over the cards of the table: the share of a card that waits at every grant. Assumes nothing.
+use Prim.Native.Nat.{ℕ, zero, suc, _+_, _*_, _/_, _≤_, _<_}
+use native.Mathlib.Nat.{not-suc-le-zero, mul-zero, zero-div, div-lt-iff-lt-mul}
+use native.Mathlib.Omega.{arith}
+use mathlib.Core.Path.{_≡_, refl, sym, ap, _∙_, subst}
+use mathlib.Core.Logic.{_⊎_, inl, inr, _≢_}
+use mathlib.Core.Bool.{Bool, true, false, cond, true≢false}
+use mathlib.Core.List.{List, [], _∷_, _++_}
+use borrow.Author.Tests.{ne-eqb, lt-ltb}
+use lib.Dec.{eqb}
+use lib.ListN.{length}
+use Rattle.rack.specs.declared.RackState.{RackState}
+use Rattle.cards.proofs.Below.{same-or-not}
+use Rattle.cards.specs.Below.{sumBelow}
+use Rattle.cards.specs.Table.{hasCard}
+use Rattle.cards.specs.declared.Table.{Table}
+use Rattle.rack.specs.State.{waits, isCard}
+use Rattle.rack.proofs.Formed.{waiting-below, waiting-card}
+use Rattle.rack.proofs.Winner.{FairRule, Won}
+use Rattle.rack.proofs.Seen.{Seen, quiet, grant}
+use Rattle.promises.specs.Runs.{Event, outcomeOf, next, winner, isGrant, grants, times, cardsOf, WaitsAtGrants}
+use Rattle.promises.proofs.Sums.{sum-zero, sum-add, sum-one, sum-scale, sum-lt}
+use Rattle.promises.proofs.Turns.{seen-event, same-table-after, same-rule-after, ahead}
+use Rattle.promises.proofs.Potentials.{fair-potential}
+
+-- ---- a list of cards
+
+-- each number of the list is below m and passes the test
+data All (m : ℕ) (test : ℕ → Bool) : List ℕ → Type 0 where
+  none : All m test []
+  more : {x : ℕ} {l : List ℕ} → x < m → test x ≡ true → All m test l → All m test (x ∷ l)
+
+sum-times : {m : ℕ} {test : ℕ → Bool} {l : List ℕ} → All m test l → sumBelow m (λ n. times n l) ≡ length l
+unfolding times
+sum-times {m} none = sum-zero m
+sum-times {m} (more {x} {l} h t all) =
+    sum-add m (λ n. cond (eqb x n) 1 0) (λ n. times n l) ∙ rw (sum-one m x h, sum-times all) (omega arith)
+
+times-other : {m : ℕ} {test : ℕ → Bool} {l : List ℕ} → All m test l → (n : ℕ) → test n ≡ false → times n l ≡ 0
+unfolding times
+times-other none n f = refl
+times-other {test = test} (more {x} h t all) n f =
+    rw (ne-eqb x n (λ p. true≢false (sym t ∙ ap test p ∙ f)), times-other all n f)
+
+-- ---- the share
+
+cards-only : (es : List Event) (s : RackState) → All 64 (isCard s) (grants s es)
+unfolding grants
+cards-only [] s = none
+cards-only (e ∷ es) s =
+    go (seen-event s e)
+    (subst (λ (t : Table). All 64 (hasCard (t .slots)) (grants (next s e) es)) (same-table-after s e) (cards-only es (next s e)))
+  where
+    go : Seen s (outcomeOf s e) → All 64 (isCard s) (grants (next s e) es) → All 64 (isCard s) (cond (isGrant s e) (winner s e ∷ []) [] ++ grants (next s e) es)
+    go (quiet z g) ih = rw z ih
+    go (grant z free room st won) ih = rw (lt-ltb 0 (winner s e) (won .positive)) (more (won .below) (won .card) ih)
+
+module _ (a : ℕ) where
+  -- a card that waits at every grant is in the table, if there is a grant
+  waiter-card : (es : List Event) (s : RackState) → FairRule (s .table .rule) → WaitsAtGrants a s es → (grants s es ≡ []) ⊎ ((a < 64) × (isCard s a ≡ true))
+  unfolding grants WaitsAtGrants
+  waiter-card [] s r h = inl refl
+  waiter-card (e ∷ es) s r h =
+      go (seen-event s e)
+      (subst (λ (t : Table). (grants (next s e) es ≡ []) ⊎ ((a < 64) × (hasCard (t .slots) a ≡ true))) (same-table-after s e)
+      (waiter-card es (next s e) (rw (same-rule-after s e) r) (h .1)))
+    where
+      go : Seen s (outcomeOf s e) → (grants (next s e) es ≡ []) ⊎ ((a < 64) × (isCard s a ≡ true))
+          → (cond (isGrant s e) (winner s e ∷ []) [] ++ grants (next s e) es ≡ []) ⊎ ((a < 64) × (isCard s a ≡ true))
+      go (quiet z g) ih = rw z ih
+      go (grant z free room st won) ih =
+          let t : waits s a ≡ true = h .0 (lt-ltb 0 (winner s e) (won .positive)) in
+          inr (waiting-below s (won .formed) a t, waiting-card s (won .formed) a t)
+
+  positive : (x y N : ℕ) → x < y * N → 0 < N
+  positive x y zero h = absurd (not-suc-le-zero (rw (mul-zero y) at h))
+  positive x y (suc N) h = omega arith
+
+  pub share : (es : List Event) (s : RackState) → FairRule (s .table .rule) → WaitsAtGrants a s es → length (grants s es) / cardsOf s ≤ times a (grants s es)
+  share es s r h = go (waiter-card es s r h)
+    where
+      l : List ℕ
+      l = grants s es
+
+      c : ℕ
+      c = times a l
+
+      within : (n : ℕ) (t : Bool) → isCard s n ≡ t → (a ≡ n) ⊎ (a ≢ n) → times n l ≤ cond t (c + 1) 0
+      within n true e (inl p) = rw (← p) (omega arith)
+      within n true e (inr q) = ahead a n q (fair-potential a n q) es s r h
+      within n false e _ = rw (times-other (cards-only es s) n e) (omega arith)
+
+      total : (a < 64) × (isCard s a ≡ true) → length l < (c + 1) * cardsOf s
+      total k =
+          rw (← sum-times (cards-only es s), ← sum-scale 64 (c + 1) (isCard s))
+          (sum-lt 64 a (λ n. times n l) (λ n. cond (isCard s n) (c + 1) 0) (λ n _. within n (isCard s n) refl (same-or-not a n)) (rw (k .1) (omega arith)) (k .0))
+
+      go : (grants s es ≡ []) ⊎ ((a < 64) × (isCard s a ≡ true)) → length l / cardsOf s ≤ times a l
+      go (inl p) = rw (p, zero-div (cardsOf s)) (omega arith)
+      go (inr k) = omega (arith, div-lt-iff-lt-mul (positive (length l) (c + 1) (cardsOf s) (total k)) .1 (total k))

@@ -1,0 +1,4 @@
+pub mod Runs
+pub mod Fairness
+pub mod States
+pub mod Listing

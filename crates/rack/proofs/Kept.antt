@@ -1,0 +1,130 @@
+-- Every event keeps a state well formed. Assumes nothing.
+use Prim.Native.Nat.{ℕ, _+_, _^_, _<_}
+use native.Mathlib.Omega.{arith}
+use mathlib.Core.Bool.{Bool, true, false}
+use mathlib.Core.Logic.{_⊎_, inl, inr, _≢_}
+use mathlib.Core.Path.{_≡_, refl, sym, _∙_}
+use borrow.Author.Tests.{lt-ltb, eq-eqb, ne-eqb}
+use lib.Dec.{ltb, eqb}
+use lib.ListN.{length-set}
+use lib.Pow.{pow-pos}
+use lib.Seq.{getD-set-other}
+use Rattle.cards.proofs.Below.{same-or-not, tabulate-length}
+use Rattle.cards.proofs.TableKnown.{table-card}
+use Rattle.cards.specs.Table.{inTable}
+use Rattle.rack.proofs.Formed.{Mark, Formed, formed-of, of-formed, same-mark}
+use Rattle.rack.proofs.Laws.{granted-count, not-full}
+use Rattle.rack.proofs.Seen.{NoGrant, refused, full, asked, handed, Seen, seen, quiet, grant}
+use Rattle.rack.proofs.Tests.{both, or-so, set-default}
+use Rattle.rack.proofs.Winner.{Won}
+use Rattle.rack.specs.Arbitrate.{someLoserFull, countAfter, granted, eventOf}
+use Rattle.rack.specs.Events.{requested, released}
+use Rattle.rack.specs.State.{waits, countOf, isCard, wellFormed}
+use Rattle.rack.specs.declared.RackState.{RackState}
+
+-- a request by a card c
+requested-formed : (s : RackState) (c : ℕ) → inTable (s .table) c ≡ true → Formed s → Formed (requested s c)
+requested-formed s c t f =
+    record {
+      table-good = f .table-good;
+      waiting-size = length-set (s .waiting) c true ∙ f .waiting-size;
+      counts-size = length-set (s .counts) c 0 ∙ f .counts-size;
+      marks = λ n l. go n (f .marks n l) (same-or-not n c);
+      last-known = f .last-known;
+      bus-known = f .bus-known;
+    }
+  where
+    go : (n : ℕ) → Mark s n → (n ≡ c) ⊎ (n ≢ c) → Mark (requested s c) n
+    go n mark (inl p) =
+        record {
+          in-table = λ _. rw p (table-card (s .table) c t);
+          small = rw (p, set-default (s .counts) c 0) (pow-pos (s .table .k));
+          counted = λ h. absurd (h (rw (p, set-default (s .counts) c 0)));
+        }
+    go n mark (inr q) =
+        same-mark s (requested s c) n refl (getD-set-other (s .waiting) c n true false q) (getD-set-other (s .counts) c n 0 0 q) mark
+
+released-formed : (s : RackState) → Formed s → Formed (released s)
+released-formed s f =
+    record {
+      table-good = f .table-good;
+      waiting-size = f .waiting-size;
+      counts-size = f .counts-size;
+      marks = λ n l. same-mark s (released s) n refl refl refl (f .marks n l);
+      last-known = f .last-known;
+      bus-known = refl;
+    }
+
+-- a grant to w
+module _ (s : RackState) (w : ℕ) (room : someLoserFull s w ≡ false) (won : Won s w) where
+  winner-known : inTable (s .table) w ≡ true
+  unfolding inTable
+  winner-known = both (ltb w 64) (isCard s w) (lt-ltb w 64 (won .below)) (won .card)
+
+  -- a loser's count
+  data Grown (n : ℕ) : Type 0 where
+    same : countOf (granted s w) n ≡ countOf s n → Grown n
+    more : waits s n ≡ true → s .table .rule ≡ 2 → countOf s n + 1 < 2 ^ s .table .k → countOf (granted s w) n ≡ countOf s n + 1 → Grown n
+
+  grown : (n : ℕ) → n < 64 → n ≢ w → Grown n
+  unfolding countAfter
+  grown n l d = go (waits s n) (same-or-not (s .table .rule) 2) refl
+    where
+      go : (t : Bool) → (s .table .rule ≡ 2) ⊎ (s .table .rule ≢ 2) → waits s n ≡ t → Grown n
+      go true (inl e) t = more t e (omega (arith, not-full s w n room l d e t)) (rw (granted-count s w n l, ne-eqb n w d, t, e))
+      go true (inr m) t = same (rw (granted-count s w n l, ne-eqb n w d, t, ne-eqb (s .table .rule) 2 m))
+      go false _ t = same (rw (granted-count s w n l, ne-eqb n w d, t))
+
+  mark-after : (n : ℕ) → n < 64 → Mark (granted s w) n
+  unfolding granted countAfter
+  mark-after n l = go (won .formed .marks n l) (same-or-not n w)
+    where
+      loser : Mark s n → waits (granted s w) n ≡ waits s n → Grown n → Mark (granted s w) n
+      loser mark p (same q) = same-mark s (granted s w) n refl p q mark
+      loser mark p (more t e small q) =
+          record {
+            in-table = λ t. mark .in-table (sym p ∙ t);
+            small = rw q small;
+            counted = λ h. (p ∙ t, e);
+          }
+
+      go : Mark s n → (n ≡ w) ⊎ (n ≢ w) → Mark (granted s w) n
+      go mark (inr d) = loser mark (getD-set-other (s .waiting) w n false false d) (grown n l d)
+      go mark (inl p) =
+          record {
+            in-table = λ t. rw p (won .card);
+            small = rw zero-count (pow-pos (s .table .k));
+            counted = λ h. absurd (h zero-count);
+          }
+        where
+          zero-count : countOf (granted s w) n ≡ 0
+          zero-count = rw (granted-count s w n l, eq-eqb n w p)
+
+  granted-formed : Formed (granted s w)
+  unfolding granted
+  granted-formed =
+      record {
+        table-good = won .formed .table-good;
+        waiting-size = length-set (s .waiting) w false ∙ won .formed .waiting-size;
+        counts-size = tabulate-length 64 (countAfter s w);
+        marks = mark-after;
+        last-known = or-so (eqb w 0) (inTable (s .table) w) (λ _. winner-known);
+        bus-known = both (eqb w w) (inTable (s .table) w) (eq-eqb w w refl) winner-known;
+      }
+
+formed-next : (s : RackState) (letter number : ℕ) → Formed s → Formed (eventOf s letter number .state)
+formed-next s letter number f = go (seen s letter number)
+  where
+    still : {x : RackState} {n : ℕ} → NoGrant s x n → Formed x
+    still (refused i j) = f
+    still (full w ok h) = f
+    still (asked c ok t w) = requested-formed s c t f
+    still (handed c ok t h) = released-formed s f
+
+    go : Seen s (eventOf s letter number) → Formed (eventOf s letter number .state)
+    go (quiet z g) = still g
+    go (grant z free room st won) = rw st (granted-formed s (eventOf s letter number .winner) room won)
+
+-- every event keeps a well-formed state well formed
+pub stays-well-formed : (s : RackState) (letter number : ℕ) → wellFormed s ≡ true → wellFormed (eventOf s letter number .state) ≡ true
+stays-well-formed s letter number ok = of-formed (eventOf s letter number .state) (formed-next s letter number (formed-of s ok))

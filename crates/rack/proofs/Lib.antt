@@ -1,0 +1,10 @@
+pub mod Tests
+pub mod Filled
+pub mod Formed
+pub mod Laws
+pub mod Refusals
+pub mod Numbers
+pub mod Winner
+pub mod Seen
+pub mod Steps
+pub mod Kept

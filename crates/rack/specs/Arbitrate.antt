@@ -1,0 +1,102 @@
+-- What an arbitration makes of a state, under the three rules, and an event by its letter, as document 01 has it. Assumes nothing.
+use Prim.Native.Nat.{ℕ, zero, suc, _+_, _-_, _*_, _^_, _%_}
+use mathlib.Core.Bool.{Bool, false, cond, not, _&&_}
+use mathlib.Core.List.{List, [], _∷_, _++_}
+use lib.Dec.{ltb, leb, eqb}
+use lib.ListN.{set}
+use Rattle.cards.specs.Below.{anyBelow, tabulate}
+use Rattle.lines.specs.Settle.{refusal, settledOr}
+use Rattle.lines.specs.declared.Settled.{Settled}
+use Rattle.rack.specs.Events.{answered, answeredBy, requestOf, releaseOf}
+use Rattle.rack.specs.State.{waits, countOf, isClosed, wellFormed, withMarks, withBus}
+use Rattle.rack.specs.declared.Bus.the-variants.{Held}
+use Rattle.rack.specs.declared.Outcome.{Outcome}
+use Rattle.rack.specs.declared.RackState.{RackState}
+
+-- One of three by the rule's number: 0 fixed, 1 round-robin, 2 arrival. The last is for any other number. No well-formed state has one
+-- (`formed-rule` of the proofs), so no event of document 01 comes to it: it only makes the definition total.
+unfoldable pub byRule : {A : Type 0} → ℕ → A → A → A → A → A
+byRule zero fixed robin arrival other = fixed
+byRule (suc zero) fixed robin arrival other = robin
+byRule (suc (suc zero)) fixed robin arrival other = arrival
+byRule (suc (suc (suc n))) fixed robin arrival other = other
+
+-- how many lines the rule has; 0 lines are refused by every settling
+unfoldable pub linesOf : RackState → ℕ
+linesOf s = byRule (s .table .rule) (s .table .k) (s .table .k + 1) (s .table .k * 2) 0
+
+-- the competing number of a waiting card a
+unfoldable pub numberOf : RackState → ℕ → ℕ
+numberOf s a =
+    byRule (s .table .rule) a
+    (cond (ltb a (s .last)) (a + 2 ^ s .table .k) a)
+    (a + 2 ^ s .table .k * countOf s a)
+    0
+
+-- the waiting cards compete
+unfoldable pub competes : RackState → ℕ → Bool
+competes s a = waits s a
+
+-- the competing numbers of the cards below n, by rising card
+unfoldable pub competingBelow : RackState → ℕ → List ℕ
+competingBelow s zero = []
+competingBelow s (suc n) = competingBelow s n ++ cond (competes s n) (numberOf s n ∷ []) []
+
+abbrev pub competing : RackState → List ℕ
+competing s = competingBelow s 64
+
+-- what their settling answers, on the rule's lines and with room for 13 stage entries. In a well-formed state it is not refused (`settles`).
+abbrev pub settlingOf : RackState → Settled
+settlingOf s = settledOr (refusal (linesOf s) (competing s) 13) (linesOf s) (competing s)
+
+-- the winner is the settled value modulo 2 ^ k
+abbrev pub winnerOf : RackState → ℕ
+winnerOf s = settlingOf s .lines % 2 ^ s .table .k
+
+-- refusal 16: under rule 2 a loser's count is already 2 ^ k - 1
+abbrev pub isLoser : RackState → ℕ → ℕ → Bool
+isLoser s w a = not (eqb a w) && waits s a
+
+abbrev pub loserIsFull : RackState → ℕ → ℕ → Bool
+loserIsFull s w a = isLoser s w a && leb (2 ^ s .table .k - 1) (countOf s a)
+
+unfoldable pub someLoserFull : RackState → ℕ → Bool
+someLoserFull s w = eqb (s .table .rule) 2 && anyBelow 64 (loserIsFull s w)
+
+-- the winner's count becomes 0; under rule 2 every loser's grows by 1
+unfoldable pub countAfter : RackState → ℕ → ℕ → ℕ
+countAfter s w a = cond (eqb a w) 0 (cond (waits s a && eqb (s .table .rule) 2) (countOf s a + 1) (countOf s a))
+
+-- the winner stops waiting, holds the bus and is the last winner
+unfoldable pub granted : RackState → ℕ → RackState
+granted s w = withBus (withMarks s (set (s .waiting) w false) (tabulate 64 (countAfter s w))) w (Held w)
+
+-- the outcome of a grant to w with these settled lines
+abbrev pub grantTo : RackState → ℕ → Settled → Outcome
+grantTo s w t = record { state = granted s w; answer = 0; winner = w; lines = t .lines; stages = t .stages }
+
+unfoldable pub wonBy : RackState → ℕ → Settled → Outcome
+wonBy s w t = cond (someLoserFull s w) (answered s 16) (grantTo s w t)
+
+-- the waiting cards settle; a state whose settling is refused is not well formed
+unfoldable pub arbitrated : RackState → Outcome
+arbitrated s = cond (eqb (settlingOf s .answer) 0) (wonBy s (winnerOf s) (settlingOf s)) (answered s 17)
+
+-- an arbitration: 17, 13, 14, then 16 by the winner
+unfoldable pub arbitrateRefusal : Bool → RackState → ℕ
+arbitrateRefusal formed s = cond (not formed) 17 (cond (isClosed (s .bus)) 13 (cond (not (anyBelow 64 (waits s))) 14 0))
+
+-- a number width over 6 is that of no well-formed state, whatever the event is told
+abbrev pub arbitrateBy : Bool → RackState → Outcome
+arbitrateBy formed s = answeredBy (arbitrateRefusal (formed && leb (s .table .k) 6) s) s (arbitrated s)
+
+abbrev pub arbitrateOf : RackState → Outcome
+arbitrateOf s = answeredBy (arbitrateRefusal (wellFormed s) s) s (arbitrated s)
+
+-- one of three by the event's letter: Q, A or R; the last for any other letter
+abbrev pub byLetter : {A : Type 0} → ℕ → A → A → A → A → A
+byLetter letter request arbitrate release other =
+    cond (eqb letter 81) request (cond (eqb letter 65) arbitrate (cond (eqb letter 82) release other))
+
+unfoldable pub eventOf : RackState → ℕ → ℕ → Outcome
+eventOf s letter a = byLetter letter (requestOf s a) (arbitrateOf s) (releaseOf s a) (answered s 18)

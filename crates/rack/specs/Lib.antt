@@ -1,0 +1,5 @@
+pub mod State
+pub mod Events
+pub mod Arbitrate
+pub mod Shown
+pub mod Files

@@ -1,0 +1,73 @@
+-- What a state says of each number, and which states are well formed, as document 01 has it. Assumes nothing.
+use Prim.Native.Nat.{ℕ, _^_}
+use mathlib.Core.Bool.{Bool, true, false, not, _&&_, _||_}
+use mathlib.Core.List.{List}
+use lib.ListN.{length, getD, replicate}
+use lib.Dec.{ltb, eqb}
+use Rattle.cards.specs.Below.{allBelow}
+use Rattle.cards.specs.Table.{hasCard, inTable, tableGood}
+use Rattle.cards.specs.declared.Table.{Table}
+use Rattle.rack.specs.declared.Bus.{Bus}
+use Rattle.rack.specs.declared.Bus.the-variants.{Free, Held}
+use Rattle.rack.specs.declared.RackState.{RackState}
+
+-- the card of that number waits
+abbrev pub waits : RackState → ℕ → Bool
+waits s a = getD (s .waiting) a false
+
+-- its waiting count
+abbrev pub countOf : RackState → ℕ → ℕ
+countOf s a = getD (s .counts) a 0
+
+-- a number that has a card in the state's table
+abbrev pub isCard : RackState → ℕ → Bool
+isCard s a = hasCard (s .table .slots) a
+
+-- closed to arbitration: some card holds it
+abbrev pub isClosed : Bus → Bool
+isClosed Free = false
+isClosed (Held h) = true
+
+-- held by the card a
+abbrev pub isHolder : Bus → ℕ → Bool
+isHolder Free a = false
+isHolder (Held h) a = eqb h a
+
+-- the holder, if any, is a card of the table and the last winner
+abbrev pub holderOk : Table → ℕ → Bus → Bool
+holderOk t last Free = true
+holderOk t last (Held h) = eqb h last && inTable t h
+
+-- the marks that the number a may have: only a card waits; a count is below 2 ^ k, and 0 but for a waiting card under rule 2
+unfoldable pub markFits : Table → ℕ → Bool → ℕ → Bool
+markFits t a waits count =
+    (not waits || hasCard (t .slots) a) && ltb count (2 ^ t .k) && (eqb count 0 || (waits && eqb (t .rule) 2))
+
+abbrev pub markOk : RackState → ℕ → Bool
+markOk s a = markFits (s .table) a (waits s a) (countOf s a)
+
+-- the last winner is a card of the table, or 0 for none yet
+abbrev pub lastOk : RackState → Bool
+lastOk s = eqb (s .last) 0 || inTable (s .table) (s .last)
+
+abbrev pub busOk : RackState → Bool
+busOk s = holderOk (s .table) (s .last) (s .bus)
+
+-- each array has its 64 places, as every state of the program has
+abbrev pub sizedOk : RackState → Bool
+sizedOk s = eqb (length (s .waiting)) 64 && eqb (length (s .counts)) 64
+
+unfoldable pub wellFormed : RackState → Bool
+wellFormed s = tableGood (s .table) && (sizedOk s && (allBelow 64 (markOk s) && lastOk s && busOk s))
+
+-- The next state, by what changes in it.
+
+abbrev pub withMarks : RackState → List Bool → List ℕ → RackState
+withMarks s waiting counts = record { table = s .table; waiting = waiting; counts = counts; last = s .last; bus = s .bus }
+
+abbrev pub withBus : RackState → ℕ → Bus → RackState
+withBus s last bus = record { table = s .table; waiting = s .waiting; counts = s .counts; last = last; bus = bus }
+
+-- freshly loaded: nobody waits, counts 0, no last winner, bus free
+abbrev pub freshOf : Table → RackState
+freshOf t = record { table = t; waiting = replicate 64 false; counts = replicate 64 0; last = 0; bus = Free }

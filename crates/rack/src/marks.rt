@@ -1,0 +1,99 @@
+// What a state says of each number, and whether it is well formed.
+ghost use Prim.Native.Nat.{_^_, _≤_, _<_};
+ghost use mathlib.Core.Bool.{not, _&&_, _||_};
+ghost use mathlib.Core.Path.{_≡_};
+ghost use lib.Dec.{ltb, eqb};
+ghost use Rattle.cards.specs.Below.{allBelow, anyBelow};
+ghost use Rattle.rack.specs.State.{waits, markOk, lastOk, busOk, isClosed, isHolder};
+use super::Bus;
+use super::RackState;
+
+// Two to the number width.
+pub(crate) fn span(k: u8) -> u16
+    requires { ⌜ k ≤ 6 ⌝ }
+    ensures { λ r. ⌜ (r ≡ 2 ^ k) × ((1 ≤ r) × (r ≤ 64)) ⌝ }
+{
+    1u16 << k
+}
+
+// Whether the card of that number waits.
+pub(crate) fn waits_at(s: RackState, a: u8) -> bool
+    ensures { λ r. ⌜ r ≡ waits s a ⌝ }
+{
+    if 64 <= a {
+        return false;
+    }
+    let i = a as usize;
+    s.waiting[i]
+}
+
+// Whether the card of that number holds the bus.
+pub(crate) fn is_holder(bus: Bus, a: u8) -> bool
+    ensures { λ r. ⌜ r ≡ isHolder bus a ⌝ }
+{
+    match bus {
+        Bus::Free => false,
+        Bus::Held(h) => h == a,
+    }
+}
+
+// Whether the bus is closed to arbitration.
+pub(crate) fn is_closed(bus: Bus) -> bool
+    ensures { λ r. ⌜ r ≡ isClosed bus ⌝ }
+{
+    match bus {
+        Bus::Free => false,
+        Bus::Held(_) => true,
+    }
+}
+
+// Whether some card waits.
+pub(crate) fn somebody_waits(s: RackState) -> bool
+    ensures { λ r. ⌜ r ≡ anyBelow 64 (waits s) ⌝ }
+{
+    let mut some = false;
+    for a in 0..64usize {
+        some = some | s.waiting[a];
+    }
+    some
+}
+
+// The marks of a number: only a card waits, a count is below 2 ^ k, and 0 but for a waiting card under rule 2.
+pub(crate) fn mark_fits(slot: u8, span: u16, arrival: bool, waits: bool, count: u8) -> bool
+    ensures { λ r. ⌜ r ≡ ((not waits || not (eqb slot 0)) && ltb count span && (eqb count 0 || (waits && arrival))) ⌝ }
+{
+    (!waits | (slot != 0)) & ((count as u16) < span) & ((count == 0) | (waits & arrival))
+}
+
+// The marks of every number.
+pub(crate) fn marks_ok(s: RackState) -> bool
+    requires { ⌜ s .table .k ≤ 6 ⌝ }
+    ensures { λ r. ⌜ r ≡ allBelow 64 (markOk s) ⌝ }
+{
+    let table = s.table;
+    let span = span(table.k);
+    let arrival = table.rule == 2;
+    let mut ok = true;
+    for a in 0..64usize {
+        ok = ok & mark_fits(table.slots[a], span, arrival, s.waiting[a], s.counts[a]);
+    }
+    ok
+}
+
+// The last winner is 0, or a card of the table.
+pub(crate) fn last_ok(s: RackState) -> bool
+    ensures { λ r. ⌜ r ≡ lastOk s ⌝ }
+{
+    (s.last == 0) | cards::in_table(s.table, s.last)
+}
+
+// The holder, if any, is the last winner and a card of the table.
+pub(crate) fn bus_ok(s: RackState) -> bool
+    ensures { λ r. ⌜ r ≡ busOk s ⌝ }
+{
+    let bus = s.bus;
+    match bus {
+        Bus::Free => true,
+        Bus::Held(h) => (h == s.last) & cards::in_table(s.table, h),
+    }
+}
