@@ -24,8 +24,8 @@ use Rattle.rack.specs.declared.RackState.{RackState}
 pub data NoGrant (s : RackState) : RackState → ℕ → Type 0 where
   refused : {n : ℕ} → n ≢ 16 → n ≢ 0 → NoGrant s s n
   full : (w : ℕ) → wellFormed s ≡ true → someLoserFull s w ≡ true → NoGrant s s 16
-  asked : (c : ℕ) → wellFormed s ≡ true → inTable (s .table) c ≡ true → waits s c ≡ false → NoGrant s (requested s c) 0
-  handed : (c : ℕ) → wellFormed s ≡ true → inTable (s .table) c ≡ true → isHolder (s .bus) c ≡ true → NoGrant s (released s) 0
+  asked : (c : ℕ) → wellFormed s ≡ true → inTable (s .table .slots) c ≡ true → waits s c ≡ false → NoGrant s (requested s c) 0
+  handed : (c : ℕ) → wellFormed s ≡ true → inTable (s .table .slots) c ≡ true → isHolder (s .bus) c ≡ true → NoGrant s (released s) 0
 
 pub data Seen (s : RackState) (o : Outcome) : Type 0 where
   quiet : o .winner ≡ 0 → NoGrant s (o .state) (o .answer) → Seen s o
@@ -51,14 +51,14 @@ request-seen : (s : RackState) (a : ℕ) → Seen s (requestOf s a)
 unfolding requestRefusal
 request-seen s a =
     by-refusal s (requestRefusal (wellFormed s) s a) (answered (requested s a) 0)
-    (no-16 (not (wellFormed s)) (not (inTable (s .table) a)) (waits s a) 17 11 12 (omega arith) (omega arith) (omega arith))
+    (no-16 (not (wellFormed s)) (not (inTable (s .table .slots) a)) (waits s a) 17 11 12 (omega arith) (omega arith) (omega arith))
     (λ none. let may = may-request (wellFormed s) s a none in quiet refl (asked a (may .told) (may .known) (may .new)))
 
 release-seen : (s : RackState) (a : ℕ) → Seen s (releaseOf s a)
 unfolding releaseRefusal
 release-seen s a =
     by-refusal s (releaseRefusal (wellFormed s) s a) (answered (released s) 0)
-    (no-16 (not (wellFormed s)) (not (inTable (s .table) a)) (not (isHolder (s .bus) a)) 17 11 15 (omega arith) (omega arith) (omega arith))
+    (no-16 (not (wellFormed s)) (not (inTable (s .table .slots) a)) (not (isHolder (s .bus) a)) 17 11 15 (omega arith) (omega arith) (omega arith))
     (λ none. let may = may-release (wellFormed s) s a none in quiet refl (handed a (may .told) (may .known) (may .holds)))
 
 arbitrated-seen : (s : RackState) → MayArbitrate (wellFormed s) s → Seen s (arbitrated s)

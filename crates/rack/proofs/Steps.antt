@@ -14,12 +14,12 @@ use lib.Seq.{getD-set-other}
 use Rattle.rack.specs.declared.RackState.{RackState}
 use Rattle.rack.specs.Events.{requested}
 use Rattle.rack.specs.State.{waits, countOf}
-use Rattle.rack.specs.Arbitrate.{numberOf, countAfter, granted}
+use Rattle.rack.specs.Arbitrate.{numberOf, granted}
 use Rattle.cards.proofs.Below.{same-or-not}
 use Rattle.rack.proofs.Tests.{set-default}
 use Rattle.rack.proofs.Seen.{NoGrant, refused, full, asked, handed}
 use Rattle.rack.proofs.Formed.{waiting-below, waiting-card, card-small}
-use Rattle.rack.proofs.Laws.{granted-count}
+use Rattle.rack.proofs.Laws.{winner-count, loser-count}
 use Rattle.rack.proofs.Numbers.{number-1, number-2}
 use Rattle.rack.proofs.Winner.{FairRule, Won, all-compete}
 
@@ -150,18 +150,6 @@ module _ (s : RackState) (w : ℕ) where
 
 -- and under a fair rule
 module _ (s : RackState) (w : ℕ) (r : FairRule (s .table .rule)) (won : Won s w) where
-  winner-count : countOf (granted s w) w ≡ 0
-  unfolding countAfter
-  winner-count = rw (granted-count s w w (won .below), eq-eqb w w refl)
-
-  pub loser-count : s .table .rule ≡ 2 → (x : ℕ) → x < 64 → w ≢ x → countOf (granted s w) x ≡ countOf s x + cond (waits s x) 1 0
-  unfolding countAfter
-  loser-count e x h n = rw (granted-count s w x h, ne-eqb x w (λ p. n (sym p)), e, and-true (waits s x)) (go (waits s x))
-    where
-      go : (t : Bool) → cond t (countOf s x + 1) (countOf s x) ≡ countOf s x + cond t 1 0
-      go true = refl
-      go false = omega arith
-
   number-1-after : s .table .rule ≡ 1 → (x : ℕ) → numberOf (granted s w) x ≡ x + cond (ltb x w) (2 ^ s .table .k) 0
   unfolding granted
   number-1-after e x = number-1 (granted s w) e x
@@ -183,7 +171,7 @@ module _ (s : RackState) (w : ℕ) (r : FairRule (s .table .rule)) (won : Won s 
         go : FairRule (s .table .rule) → numberOf (granted s w) w < numberOf (granted s w) a
         go (inl e) = rw (number-1-after e w, number-1-after e a, le-ltb w w (le-refl w)) (rw (add-zero w) (by-number (ltb a w) refl))
         go (inr e) =
-            rw (number-2-after e w, number-2-after e a, winner-count, loser-count e a (waiting-below s (won .formed) a t) n, t)
+            rw (number-2-after e w, number-2-after e a, winner-count s w (won .below), loser-count s w a (waiting-below s (won .formed) a t) (λ p. n (sym p)) e, t)
             (omega (arith, won .small))
 
     -- a card that is behind a is not the winner, and stays behind a
@@ -216,5 +204,5 @@ module _ (s : RackState) (w : ℕ) (r : FairRule (s .table .rule)) (won : Won s 
             (s .last) (ltb a (s .last)) (ltb b (s .last)) (ltb w (s .last)) refl refl refl
             (rw (number-1 s e b, number-1 s e a) at (h .lower)) (rw (number-1 s e a, number-1 s e w) at best)))
         go (inr e) =
-            rw (number-2-after e b, number-2-after e a, loser-count e b (h .b-below) (behind-not-winner b h), loser-count e a a-below n, t)
+            rw (number-2-after e b, number-2-after e a, loser-count s w b (h .b-below) (λ p. behind-not-winner b h (sym p)) e, loser-count s w a a-below (λ p. n (sym p)) e, t)
             (grows (waits s b) (rw (number-2 s e b, number-2 s e a) at (h .lower)))

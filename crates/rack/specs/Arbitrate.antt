@@ -3,12 +3,12 @@ use Prim.Native.Nat.{ℕ, zero, suc, _+_, _-_, _*_, _^_, _%_}
 use mathlib.Core.Bool.{Bool, false, cond, not, _&&_}
 use mathlib.Core.List.{List, [], _∷_, _++_}
 use lib.Dec.{ltb, leb, eqb}
-use lib.ListN.{set}
+use lib.ListN.{getD, set}
 use Rattle.cards.specs.Below.{anyBelow, tabulate}
 use Rattle.lines.specs.Settle.{refusal, settledOr}
 use Rattle.lines.specs.declared.Settled.{Settled}
 use Rattle.rack.specs.Events.{answered, answeredBy, requestOf, releaseOf}
-use Rattle.rack.specs.State.{waits, countOf, isClosed, wellFormed, withMarks, withBus}
+use Rattle.rack.specs.State.{waitsIn, waits, countOf, isClosed, wellFormed, withMarks, withBus}
 use Rattle.rack.specs.declared.Bus.the-variants.{Held}
 use Rattle.rack.specs.declared.Outcome.{Outcome}
 use Rattle.rack.specs.declared.RackState.{RackState}
@@ -54,22 +54,28 @@ abbrev pub winnerOf : RackState → ℕ
 winnerOf s = settlingOf s .lines % 2 ^ s .table .k
 
 -- refusal 16: under rule 2 a loser's count is already 2 ^ k - 1
-abbrev pub isLoser : RackState → ℕ → ℕ → Bool
-isLoser s w a = not (eqb a w) && waits s a
-
-abbrev pub loserIsFull : RackState → ℕ → ℕ → Bool
-loserIsFull s w a = isLoser s w a && leb (2 ^ s .table .k - 1) (countOf s a)
+abbrev pub fullLoser : ℕ → List Bool → List ℕ → ℕ → ℕ → Bool
+fullLoser full waiting counts w a = not (eqb a w) && waitsIn waiting a && leb full (getD counts a 0)
 
 unfoldable pub someLoserFull : RackState → ℕ → Bool
-someLoserFull s w = eqb (s .table .rule) 2 && anyBelow 64 (loserIsFull s w)
+someLoserFull s w = eqb (s .table .rule) 2 && anyBelow 64 (fullLoser (2 ^ s .table .k - 1) (s .waiting) (s .counts) w)
 
--- the winner's count becomes 0; under rule 2 every loser's grows by 1
-unfoldable pub countAfter : RackState → ℕ → ℕ → ℕ
-countAfter s w a = cond (eqb a w) 0 (cond (waits s a && eqb (s .table .rule) 2) (countOf s a + 1) (countOf s a))
+-- The winner stops waiting, its count becomes 0, it holds the bus and is the last winner. Under rule 2 every loser's count grows by 1: losers
+-- are the cards that still wait.
+abbrev pub oneMore : List Bool → List ℕ → ℕ → ℕ
+oneMore waiting counts a = cond (waitsIn waiting a) (getD counts a 0 + 1) (getD counts a 0)
 
--- the winner stops waiting, holds the bus and is the last winner
+unfoldable pub losersCounted : ℕ → List Bool → List ℕ → List ℕ
+losersCounted rule waiting counts = cond (eqb rule 2) (tabulate 64 (oneMore waiting counts)) counts
+
+abbrev pub winnerStopped : RackState → ℕ → List Bool
+winnerStopped s w = set (s .waiting) w false
+
+abbrev pub countsAfter : RackState → ℕ → List ℕ
+countsAfter s w = losersCounted (s .table .rule) (winnerStopped s w) (set (s .counts) w 0)
+
 unfoldable pub granted : RackState → ℕ → RackState
-granted s w = withBus (withMarks s (set (s .waiting) w false) (tabulate 64 (countAfter s w))) w (Held w)
+granted s w = withBus (withMarks s (winnerStopped s w) (countsAfter s w)) w (Held w)
 
 -- the outcome of a grant to w with these settled lines
 abbrev pub grantTo : RackState → ℕ → Settled → Outcome

@@ -1,6 +1,5 @@
 use Rattle.rack.proofs.Filled.{Filled, filled-none, filled-more, filled-all}
-use Rattle.rack.specs.Arbitrate.{numberOf, competes}
-use Rattle.rack.specs.Shown.{shownBy}
+use Rattle.rack.specs.Shown.{shownAt}
 use mathlib.Core.Path.{refl}
 use Prim.Native.Nat.{_≤_, _-_}
 use native.Mathlib.Omega.{arith}
@@ -9,10 +8,10 @@ use Rattle.rack.proofs.arbitration.numbers_of.Statement.{statement}
 use Rattle.rack.proofs.arbitration.numbers_of.Tie as tie
 
 abbrev Inv-loop : tie.InvT-loop
-Inv-loop s rule span last numbers₀ a₀ numbers a = (a ≤ 64) × Filled 64 (shownBy s) a numbers
+Inv-loop k rule last waiting counts span numbers₀ a₀ numbers a = (a ≤ 64) × Filled 64 (shownAt k rule last waiting counts) a numbers
 
 abbrev μ-loop : tie.MeasureT-loop
-μ-loop s rule span last numbers₀ a₀ numbers a = 64 - a
+μ-loop k rule last waiting counts span numbers₀ a₀ numbers a = 64 - a
 
 span-requires : tie.Need-span-requires Inv-loop μ-loop
 span-requires c κs = search needs
@@ -45,7 +44,7 @@ loop-less : tie.Need-loop-less Inv-loop μ-loop
 loop-less c = search needs
 
 loop-again : tie.Need-loop-again Inv-loop μ-loop
-unfolding shownBy numberOf competes
+unfolding shownAt
 loop-again c =
     let at-loop = c .before .before .before .before .before in
     (search needs, filled-more 64 _ _ _ _ (search needs) (at-loop .loop .inv .1) (rw (c .shown .ensures, c .before .number-by .ensures, at-loop .before .span .ensures .0)))
