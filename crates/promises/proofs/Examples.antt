@@ -7,7 +7,7 @@ use mathlib.Core.List.{List, [], _∷_}
 use lib.ListN.{length}
 use Rattle.cards.specs.Below as below
 use Rattle.cards.specs.Table as table
-use Rattle.cards.specs.Format as format
+use Rattle.cardfile.specs.Format as format
 use Rattle.cards.specs.declared.Table.{Table}
 use Rattle.lines.specs.Settle as settle
 use Rattle.lines.specs.Settling as settling
@@ -21,12 +21,12 @@ use Rattle.promises.specs.Listing.{line, Q, A, R, replayed, file, listin
 
 -- whoever unfolds this computes with the whole machine
 machine : Type 0
-unfolding below.allBelow below.anyBelow below.sumBelow below.tabulate table.hasCard table.inTable table.slotIsNew table.numberGood table.slotsGood table.tableGood markFits wellFormed answeredBy requestRefusal releaseRefusal arbitrate.byRule arbitrate.linesOf arbitrate.numberOf arbitrate.competes arbitrate.competingBelow arbitrate.someLoserFull arbitrate.countAfter arbitrate.granted arbitrate.wonBy arbitrate.arbitrated arbitrate.arbitrateRefusal arbitrate.eventOf settle.someFrom settle.refusal settling.settled settling.stages settling.changes settling.linesAt settling.stage settling.applied settling.outbid after grants times WaitsThrough WaitsAtGrants Q A R line
+unfolding below.allBelow below.anyBelow below.sumBelow below.tabulate table.hasCard table.inTable table.slotIsNew table.numberGood table.slotsGood table.tableGood markFits wellFormed answeredBy requestRefusal releaseRefusal arbitrate.byRule arbitrate.linesOf arbitrate.numberOf arbitrate.competes arbitrate.competingBelow arbitrate.someLoserFull arbitrate.losersCounted arbitrate.granted arbitrate.wonBy arbitrate.arbitrated arbitrate.arbitrateRefusal arbitrate.eventOf settle.someFrom settle.refusal settling.settled settling.stages settling.changes settling.linesAt settling.stage settling.applied settling.outbid after grants times WaitsThrough WaitsAtGrants Q A R line
 machine = Unit
 
 -- and this loads the table
 loading : Type 0
-unfolding machine file format.headerOf format.rangesGood format.layoutGood format.nameByteGood format.entryGood format.nameIsNew format.directoryGood format.columnOf format.columnWithin format.valueIsNew format.columnDistinct format.cardsGood format.filledOf format.refusedWith format.refuseUnless format.cardsOf format.columnsFound format.columnsRead format.headerRead format.loadTableOf
+unfolding machine file format.headerOf format.rangesGood format.layoutGood format.nameByteGood format.nameGood format.entryGood format.nameIsNew format.directoryGood format.columnOf format.columnWithin format.valueIsNew format.columnDistinct format.cardsGood format.filledOf format.refusedWith format.refuseUnless format.cardsOf format.columnsFound format.columnsRead format.headerRead format.loadTableOf
 loading = Unit
 
 pub listing-loads : loadOf file .answer ≡ 0

@@ -8,7 +8,7 @@ use mathlib.Core.Bool.{Bool, true, false, cond, _&&_}
 use borrow.Author.Tests.{ltb-true, lt-ltb}
 use lib.Dec.{ltb}
 use Rattle.rack.specs.declared.RackState.{RackState}
-use Rattle.cards.proofs.Below.{and-left, and-right}
+use Rattle.rack.proofs.Tests.{and-left, and-right}
 use Rattle.rack.specs.State.{waits}
 use Rattle.rack.specs.Arbitrate.{numberOf, granted}
 use Rattle.rack.proofs.Winner.{FairRule, Won}

@@ -6,8 +6,8 @@ use mathlib.Core.List.{List}
 use borrow.Author.Tests.{le-leb}
 use lib.ListN.{length, take}
 use Rattle.cards.specs.Saving.{savedOf, savedLength}
-use Rattle.cards.specs.declared.LoadedTable.{LoadedTable}
-use Rattle.cards.proofs.RoundTrip.{round-trip}
+use Rattle.cardfile.specs.declared.LoadedTable.{LoadedTable}
+use Rattle.cardfile.proofs.RoundTrip.{round-trip}
 use Rattle.rack.specs.declared.RackState.{RackState}
 use Rattle.rack.specs.declared.Loaded.{Loaded}
 use Rattle.rack.specs.State.{wellFormed, freshOf}

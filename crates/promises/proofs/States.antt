@@ -6,8 +6,8 @@ use mathlib.Core.List.{List}
 use mathlib.Core.Logic.{_⊎_, inl, inr, _≢_}
 use mathlib.Core.Path.{_≡_, refl, ap}
 use lib.Dec.{eqb}
-use Rattle.cards.proofs.LoadedGood.{loaded-good, refused-zero}
-use Rattle.cards.specs.Format.{refusedWith}
+use Rattle.cardfile.proofs.LoadedGood.{loaded-good, refused-zero}
+use Rattle.cardfile.specs.Format.{refusedWith}
 use Rattle.cards.specs.Table.{tableGood}
 use Rattle.lines.specs.declared.Settled.{Settled}
 use Rattle.promises.specs.Runs.{Event, outcomeOf}

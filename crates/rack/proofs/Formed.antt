@@ -9,12 +9,12 @@ use borrow.Author.Tests.{ltb-true, lt-ltb, eqb-true, eqb-false, eq-eqb, ne-eqb}
 use lib.Dec.{eqb}
 use lib.ListN.{length, getD, replicate, length-replicate, List·getD-eq-default}
 use lib.Pow.{pow-pos}
-use Rattle.cards.proofs.Below.{and-left, and-right, implied, otherwise, le-or-lt, all-at, all-each}
+use Rattle.cards.proofs.Below.{implied, le-or-lt, all-at, all-each}
 use Rattle.cards.proofs.TableKnown.{table-known, card-range}
 use Rattle.cards.specs.Below.{allBelow}
 use Rattle.cards.specs.Table.{tableGood}
 use Rattle.cards.specs.declared.Table.{Table}
-use Rattle.rack.proofs.Tests.{both, if-so, or-so, replicate-default}
+use Rattle.rack.proofs.Tests.{and-left, and-right, otherwise, both, if-so, or-so, replicate-default}
 use Rattle.rack.specs.State.{waits, countOf, isCard, markFits, markOk, sizedOk, lastOk, busOk, wellFormed, freshOf}
 use Rattle.rack.specs.declared.RackState.{RackState}
 

@@ -1,7 +1,7 @@
 -- Every event keeps a state well formed. Assumes nothing.
 use Prim.Native.Nat.{ℕ, _+_, _^_, _<_}
 use native.Mathlib.Omega.{arith}
-use mathlib.Core.Bool.{Bool, true, false}
+use mathlib.Core.Bool.{Bool, true, false, true≢false}
 use mathlib.Core.Logic.{_⊎_, inl, inr, _≢_}
 use mathlib.Core.Path.{_≡_, refl, sym, _∙_}
 use borrow.Author.Tests.{lt-ltb, eq-eqb}
@@ -127,3 +127,18 @@ formed-next s letter number f = go (seen s letter number)
 -- every event keeps a well-formed state well formed
 pub stays-well-formed : (s : RackState) (letter number : ℕ) → wellFormed s ≡ true → wellFormed (eventOf s letter number .state) ≡ true
 stays-well-formed s letter number ok = of-formed (eventOf s letter number .state) (formed-next s letter number (formed-of s ok))
+
+-- and an event leaves a state that is not well formed as it is
+pub same-form : (s : RackState) (letter number : ℕ) → wellFormed (eventOf s letter number .state) ≡ wellFormed s
+same-form s letter number = go (wellFormed s) refl (seen s letter number)
+  where
+    unmoved : {x : RackState} {n : ℕ} → wellFormed s ≡ false → NoGrant s x n → wellFormed x ≡ wellFormed s
+    unmoved ill (refused i j) = refl
+    unmoved ill (full w ok h) = refl
+    unmoved ill (asked c ok t w) = absurd (true≢false (sym ok ∙ ill))
+    unmoved ill (handed c ok t h) = absurd (true≢false (sym ok ∙ ill))
+
+    go : (b : Bool) → wellFormed s ≡ b → Seen s (eventOf s letter number) → wellFormed (eventOf s letter number .state) ≡ wellFormed s
+    go true e _ = stays-well-formed s letter number e ∙ sym e
+    go false e (quiet z g) = unmoved e g
+    go false e (grant z free room st won) = absurd (true≢false (sym (of-formed s (won .formed)) ∙ e))

@@ -46,6 +46,10 @@ arbitrated-table s =
     either (s .table) (eqb (settlingOf s .answer) 0) (wonBy s (winnerOf s) (settlingOf s)) (answered s 17)
     (either (s .table) (someLoserFull s (winnerOf s)) (answered s 16) (grantTo s (winnerOf s) (settlingOf s)) refl refl) refl
 
+pub state-again : (o : Outcome) (table : Table) (r : Reply) (waiting : List Bool) (counts : List ℕ)
+    → o .state .table ≡ table → Leaves o r waiting counts → stateOf table waiting counts (r .hold) ≡ o .state
+state-again o table r waiting counts same left = rw (← same, left .reply, left .waiting-left, left .counts-left)
+
 pub outcome-again : (o : Outcome) (table : Table) (r : Reply) (waiting : List Bool) (counts : List ℕ)
     → o .state .table ≡ table → Leaves o r waiting counts → outcomeFrom table waiting counts r ≡ o
 outcome-again o table r waiting counts same left = rw (← same, left .reply, left .waiting-left, left .counts-left)

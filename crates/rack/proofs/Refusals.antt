@@ -5,12 +5,12 @@ use mathlib.Core.List.{List}
 use mathlib.Core.Path.{_≡_, refl, ap}
 use borrow.Author.Tests.{leb-true, le-leb, lt-ltb, not-false}
 use lib.Dec.{ltb, leb}
-use Rattle.cards.proofs.Below.{and-right}
 use Rattle.cards.proofs.TableKnown.{table-range}
 use Rattle.cards.specs.Below.{anyBelow}
 use Rattle.cards.specs.Table.{inTable}
 use Rattle.lines.proofs.Refusal.{passed, after}
 use Rattle.rack.proofs.Formed.{formed-of, formed-width}
+use Rattle.rack.proofs.Tests.{and-right}
 use Rattle.rack.specs.Arbitrate.{arbitrateRefusal, arbitrateBy, arbitrateOf}
 use Rattle.rack.specs.Events.{requestRefusal, releaseRefusal}
 use Rattle.rack.specs.State.{waitsIn, waits, isClosed, isHolder, wellFormed}

@@ -146,7 +146,7 @@ pub fn event(s: RackState, letter: u8, a: u8) -> Outcome
 pub fn load(file: &[u8]) -> Loaded
     ensures { λ r. ⌜ r ≡ loadOf (now (file .entry)) ⌝ }
 {
-    let loaded = cards::load_table(file);
+    let loaded = cardfile::load_table(file);
     let table = loaded.table;
     Loaded {
         answer: loaded.answer,
