@@ -1,0 +1,11 @@
+use mathlib.Core.Path.{refl}
+use Rattle.trace.specs.Line.{shaped}
+use Rattle.trace.proofs.reading.is_shaped.Statement.{statement}
+use Rattle.trace.proofs.reading.is_shaped.Tie as tie
+
+returns : tie.Need-returns
+unfolding shaped
+returns c = refl
+
+pub is-shaped-spec : {M : Type 1} → statement M
+is-shaped-spec = tie.close (tie.spec returns)
