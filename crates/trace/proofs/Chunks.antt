@@ -1,16 +1,16 @@
 -- A trace that is read in chunks of whole lines has the listing that it has in one piece.
 -- Assumes nothing.
 use Prim.Native.Nat.{ℕ, zero, suc, _+_, _*_, _<_, _≤_}
-use mathlib.Core.Path.{_≡_, refl, sym, _∙_}
-use mathlib.Core.Bool.{Bool, true, false, cond}
-use mathlib.Core.List.{List, [], _∷_, _++_, append-assoc, append-nil}
 use native.Mathlib.Nat.{add-zero, add-suc, add-assoc}
 use native.Mathlib.Omega.{arith}
+use mathlib.Core.Bool.{Bool, true, false, cond}
+use mathlib.Core.List.{List, [], _∷_, _++_, append-assoc, append-nil}
+use mathlib.Core.Path.{_≡_, refl, sym, _∙_}
 use lib.ListN.{length, getD, List·getD-append}
 use lib.Seq.{getD-append-add}
 use Rattle.rack.specs.declared.RackState.{RackState}
-use Rattle.trace.specs.Listing.{lineIn, textIn, Listed, Listing, withLine, lineAt, listing, followedBy, thenListing}
 use Rattle.trace.proofs.Laws.{ended-stays}
+use Rattle.trace.specs.Listing.{lineIn, textIn, Listed, Listing, withLine, lineAt, listing, followedBy, thenListing}
 
 -- a line of the front, and one of the back
 line-front : (s : RackState) (xs ys : List ℕ) (n : ℕ) → 5 * n + 4 < length xs → lineAt s (xs ++ ys) n ≡ lineAt s xs n

@@ -6,14 +6,14 @@ use native.Mathlib.Omega.{arith}
 use mathlib.Core.Bool.{Bool, true, false, cond, _&&_}
 use mathlib.Core.List.{List, [], _∷_, _++_, append-assoc, append-nil}
 use mathlib.Core.Path.{_≡_, refl, sym, ap, _∙_}
-use borrow.Author.Tests.{leb-true}
 use lib.Dec.{leb, eqb}
 use lib.ListN.{length, getD, take, drop, set, length-append, length-drop, drop-of-length-le}
 use lib.Seq.{drop-cons, take-suc, set-at, take-at, drop-at, drop-drop, length-take-le, append-snoc, take-length, take-all}
-use Rattle.rack.proofs.Tests.{and-left, and-right}
-use Rattle.rack.proofs.Kept.{same-form}
+use borrow.Author.Tests.{leb-true}
 use Rattle.cards.specs.declared.Table.{Table}
+use Rattle.rack.proofs.Kept.{same-form}
 use Rattle.rack.proofs.Leaving.{table-kept, arbitrated-table, state-again}
+use Rattle.rack.proofs.Tests.{and-left, and-right}
 use Rattle.rack.specs.Arbitrate.{eventOf}
 use Rattle.rack.specs.Lent.{stateOf, Leaves}
 use Rattle.rack.specs.State.{wellFormed}

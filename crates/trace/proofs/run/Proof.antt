@@ -5,8 +5,8 @@ use native.Mathlib.Nat.{min-le-left, min-le-right}
 use native.Mathlib.Omega.{arith}
 use mathlib.Core.Path.{_≡_, refl, sym, _∙_}
 use lib.ListN.{length}
-use denote.Ref.{now}
 use borrow.Author.Needs.{needs}
+use denote.Ref.{now}
 use Rattle.rack.specs.Lent.{stateOf}
 use Rattle.rack.specs.State.{wellFormed}
 use Rattle.trace.proofs.Laws.{Going, going-none, all-gone, formed-still, one-further, at-end}

@@ -5,9 +5,9 @@ use Rattle.rack.proofs.Leaving.{leaves-answered}
 use Rattle.rack.proofs.Refusals.{told-truth}
 use Rattle.rack.specs.Lent.{stateOf, tableOf}
 use Rattle.rack.specs.declared.RackState.{RackState}
-use Rattle.trace.specs.Line.{lineOutcome}
 use Rattle.trace.proofs.events.answer_line.Statement.{statement}
 use Rattle.trace.proofs.events.answer_line.Tie as tie
+use Rattle.trace.specs.Line.{lineOutcome}
 
 abbrev state : tie.Start → RackState
 state given = stateOf (tableOf (given .args .k) (given .args .rule) (given .args .slots .now)) (given .args .waiting .now) (given .args .counts .now) (given .args .hold)

@@ -1,7 +1,7 @@
 use mathlib.Core.Path.{refl}
-use Rattle.trace.specs.Line.{shaped}
 use Rattle.trace.proofs.reading.is_shaped.Statement.{statement}
 use Rattle.trace.proofs.reading.is_shaped.Tie as tie
+use Rattle.trace.specs.Line.{shaped}
 
 returns : tie.Need-returns
 unfolding shaped

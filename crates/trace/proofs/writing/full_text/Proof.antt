@@ -1,8 +1,8 @@
 -- `trace::writing::full_text` meets its contract: each character is the definition's. Assumes nothing.
 use borrow.Author.Needs.{needs}
-use Rattle.trace.specs.Line.{textOf}
 use Rattle.trace.proofs.writing.full_text.Statement.{statement}
 use Rattle.trace.proofs.writing.full_text.Tie as tie
+use Rattle.trace.specs.Line.{textOf}
 
 returns : tie.Need-returns
 unfolding textOf

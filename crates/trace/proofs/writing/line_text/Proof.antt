@@ -1,8 +1,8 @@
 -- `trace::writing::line_text` meets its contract: by whether the line is malformed. Assumes nothing.
 use borrow.Author.Needs.{needs}
-use Rattle.trace.specs.Line.{lineText}
 use Rattle.trace.proofs.writing.line_text.Statement.{statement}
 use Rattle.trace.proofs.writing.line_text.Tie as tie
+use Rattle.trace.specs.Line.{lineText}
 
 returns : tie.Need-returns
 unfolding lineText

@@ -2,12 +2,12 @@
 use Prim.Native.Nat.{_*_}
 use native.Mathlib.Omega.{arith}
 use mathlib.Core.Path.{_∙_}
-use borrow.Author.Needs.{needs}
 use lib.ListN.{length-take, length-drop}
+use borrow.Author.Needs.{needs}
 use Rattle.trace.proofs.Laws.{part-put}
-use Rattle.trace.specs.Listing.{textIn}
 use Rattle.trace.proofs.writing.put_line.Statement.{statement}
 use Rattle.trace.proofs.writing.put_line.Tie as tie
+use Rattle.trace.specs.Listing.{textIn}
 
 put-front-requires : tie.Need-put-front-requires
 put-front-requires c κs = simp (length-take, length-drop) (omega arith)

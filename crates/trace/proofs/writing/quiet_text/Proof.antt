@@ -1,8 +1,8 @@
 -- `trace::writing::quiet_text` meets its contract: the digits of 0 are known. Assumes nothing.
 use borrow.Author.Needs.{needs}
-use Rattle.trace.specs.Line.{textOf}
 use Rattle.trace.proofs.writing.quiet_text.Statement.{statement}
 use Rattle.trace.proofs.writing.quiet_text.Tie as tie
+use Rattle.trace.specs.Line.{textOf}
 
 returns : tie.Need-returns
 unfolding textOf
