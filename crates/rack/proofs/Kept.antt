@@ -4,11 +4,11 @@ use native.Mathlib.Omega.{arith}
 use mathlib.Core.Bool.{Bool, true, false, true≢false}
 use mathlib.Core.Logic.{_⊎_, inl, inr, _≢_}
 use mathlib.Core.Path.{_≡_, refl, sym, _∙_}
-use borrow.Author.Tests.{lt-ltb, eq-eqb}
 use lib.Dec.{ltb, eqb}
 use lib.ListN.{length-set}
 use lib.Pow.{pow-pos}
 use lib.Seq.{getD-set-other}
+use borrow.Author.Tests.{lt-ltb, eq-eqb}
 use Rattle.cards.proofs.Below.{same-or-not}
 use Rattle.cards.proofs.TableKnown.{table-card}
 use Rattle.cards.specs.Table.{inTable}

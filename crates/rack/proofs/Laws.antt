@@ -3,19 +3,20 @@ use Prim.Native.Nat.{ℕ, zero, suc, _+_, _-_, _*_, _^_, _≤_, _<_}
 use native.Mathlib.Nat.{mul-le-mul}
 use native.Mathlib.Omega.{arith}
 use mathlib.Core.Bool.{Bool, true, false, cond}
-use mathlib.Core.List.{List, [], _∷_}
+use mathlib.Core.List.{[], _∷_}
 use mathlib.Core.Logic.{_⊎_, inl, inr, _≢_}
 use mathlib.Core.Path.{_≡_, refl, sym, _∙_}
-use borrow.Author.Tests.{leb-false, eq-eqb, ne-eqb}
 use lib.Dec.{eqb}
 use lib.ListN.{length, getD, set, length-append, length-set}
 use lib.Pow.{pow-mono}
 use lib.Seq.{getD-set-other}
+use borrow.Author.Tests.{leb-false, eq-eqb, ne-eqb}
 use Rattle.cards.proofs.Below.{any-false, same-or-not, tabulate-at, tabulate-length}
 use Rattle.cards.specs.Below.{tabulate}
 use Rattle.lines.proofs.Silent.{Silent, none, kept, more, silent-append}
 use Rattle.rack.proofs.Tests.{set-default}
-use Rattle.rack.specs.Arbitrate.{byRule, numberOf, competes, competingBelow, fullLoser, someLoserFull, oneMore, losersCounted, winnerStopped, granted}
+use Rattle.rack.specs.Arbitrate.{byRule, numberOf, competes, competingBelow, fullLoser, someLoserFull}
+use Rattle.rack.specs.Arbitrate.{oneMore, losersCounted, winnerStopped, granted}
 use Rattle.rack.specs.Shown.{shownAt}
 use Rattle.rack.specs.State.{waitsIn, waits, countOf}
 use Rattle.rack.specs.declared.RackState.{RackState}

@@ -1,16 +1,16 @@
 -- How an event on lent marks leaves them, where it is refused and where it is done. Assumes nothing.
 use Prim.Native.Nat.{ℕ, _^_, _%_}
-use mathlib.Core.List.{List}
 use mathlib.Core.Bool.{Bool, true, false, cond}
+use mathlib.Core.List.{List}
 use mathlib.Core.Logic.{_≢_}
 use mathlib.Core.Path.{_≡_, refl}
-use borrow.Author.Tests.{eq-eqb, ne-eqb}
 use lib.Dec.{eqb}
+use borrow.Author.Tests.{eq-eqb, ne-eqb}
 use Rattle.cards.specs.declared.Table.{Table}
 use Rattle.lines.specs.declared.Settled.{Settled}
 use Rattle.rack.specs.Arbitrate.{settlingOf, winnerOf, someLoserFull, granted, grantTo, wonBy, arbitrated}
 use Rattle.rack.specs.Events.{answered, answeredBy}
-use Rattle.rack.specs.Lent.{stateOf, replyOf, quietReply, outcomeFrom, Leaves}
+use Rattle.rack.specs.Lent.{stateOf, quietReply, outcomeFrom, Leaves}
 use Rattle.rack.specs.declared.Hold.{Hold}
 use Rattle.rack.specs.declared.Outcome.{Outcome}
 use Rattle.rack.specs.declared.RackState.{RackState}
@@ -21,7 +21,8 @@ module _ (table : Table) (waiting : List Bool) (counts : List ℕ) (hold : Hold)
   pub leaves-answered : (n : ℕ) → Leaves (answered (stateOf table waiting counts hold) n) (quietReply hold n) waiting counts
   leaves-answered n = record { reply = refl; waiting-left = refl; counts-left = refl }
 
-  pub leaves-refused : (n : ℕ) (done : Outcome) → n ≢ 0 → Leaves (answeredBy n (stateOf table waiting counts hold) done) (quietReply hold n) waiting counts
+  pub leaves-refused : (n : ℕ) (done : Outcome) → n ≢ 0
+      → Leaves (answeredBy n (stateOf table waiting counts hold) done) (quietReply hold n) waiting counts
   unfolding answeredBy
   leaves-refused n done some = rw (ne-eqb n 0 some) (leaves-answered n)
 
@@ -55,7 +56,8 @@ pub outcome-again : (o : Outcome) (table : Table) (r : Reply) (waiting : List Bo
 outcome-again o table r waiting counts same left = rw (← same, left .reply, left .waiting-left, left .counts-left)
 
 -- an arbitration, by what its settling answers
-module _ (table : Table) (waiting : List Bool) (counts : List ℕ) (hold : Hold) (t : Settled) (is : t ≡ settlingOf (stateOf table waiting counts hold)) where
+module _ (table : Table) (waiting : List Bool) (counts : List ℕ) (hold : Hold)
+    (t : Settled) (is : t ≡ settlingOf (stateOf table waiting counts hold)) where
   pub leaves-unsettled : t .answer ≢ 0 → Leaves (arbitrated (stateOf table waiting counts hold)) (quietReply hold 17) waiting counts
   unfolding arbitrated
   leaves-unsettled some = rw (← is, ne-eqb (t .answer) 0 some) (leaves-answered table waiting counts hold 17)

@@ -1,20 +1,32 @@
 -- What an event that is not refused has met. Assumes nothing.
-use Prim.Native.Nat.{ℕ, _≤_}
+use Prim.Native.Nat.{ℕ, suc, _≤_}
+use native.Mathlib.Omega.{arith}
 use mathlib.Core.Bool.{Bool, true, false, cond, not, _&&_}
 use mathlib.Core.List.{List}
-use mathlib.Core.Path.{_≡_, refl, ap}
-use borrow.Author.Tests.{leb-true, le-leb, lt-ltb, not-false}
+use mathlib.Core.Path.{_≡_, refl, ap, _∙_}
 use lib.Dec.{ltb, leb}
+use borrow.Author.Tests.{leb-true, le-leb, lt-ltb, not-false}
 use Rattle.cards.proofs.TableKnown.{table-range}
 use Rattle.cards.specs.Below.{anyBelow}
 use Rattle.cards.specs.Table.{inTable}
-use Rattle.lines.proofs.Refusal.{passed, after}
 use Rattle.rack.proofs.Formed.{formed-of, formed-width}
 use Rattle.rack.proofs.Tests.{and-right}
 use Rattle.rack.specs.Arbitrate.{arbitrateRefusal, arbitrateBy, arbitrateOf}
 use Rattle.rack.specs.Events.{requestRefusal, releaseRefusal}
 use Rattle.rack.specs.State.{waitsIn, waits, isClosed, isHolder, wellFormed}
 use Rattle.rack.specs.declared.RackState.{RackState}
+
+-- a chain of an event's first refusals that gives 0 met none of them
+record Met (formed second third : Bool) : Type 0 where
+  told : formed ≡ true
+  not-second : second ≡ false
+  not-third : third ≡ false
+
+met : (formed second third : Bool) (x y : ℕ) → cond (not formed) 17 (cond second (suc x) (cond third (suc y) 0)) ≡ 0 → Met formed second third
+met true false false x y none = record { told = refl; not-second = refl; not-third = refl }
+met true false true x y none = absurd (omega arith)
+met true true third x y none = absurd (omega arith)
+met false second third x y none = absurd (omega arith)
 
 module _ (formed : Bool) (s : RackState) where
   pub record MayRequest (a : ℕ) : Type 0 where
@@ -25,12 +37,8 @@ module _ (formed : Bool) (s : RackState) where
   pub may-request : (a : ℕ) → requestRefusal formed s a ≡ 0 → MayRequest a
   unfolding requestRefusal
   may-request a none =
-      let tabled = after (not formed) 16 _ none in
-      record {
-        told = not-false _ (passed (not formed) 16 _ none);
-        known = not-false _ (passed (not (inTable (s .table .slots) a)) 10 _ tabled);
-        new = passed (waits s a) 11 _ (after (not (inTable (s .table .slots) a)) 10 _ tabled);
-      }
+      let m = met formed (not (inTable (s .table .slots) a)) (waits s a) 10 11 none in
+      record { told = m .told; known = not-false _ (m .not-second); new = m .not-third }
 
   pub record MayRelease (a : ℕ) : Type 0 where
     pub told : formed ≡ true
@@ -40,12 +48,8 @@ module _ (formed : Bool) (s : RackState) where
   pub may-release : (a : ℕ) → releaseRefusal formed s a ≡ 0 → MayRelease a
   unfolding releaseRefusal
   may-release a none =
-      let tabled = after (not formed) 16 _ none in
-      record {
-        told = not-false _ (passed (not formed) 16 _ none);
-        known = not-false _ (passed (not (inTable (s .table .slots) a)) 10 _ tabled);
-        holds = not-false _ (passed (not (isHolder (s .bus) a)) 14 _ (after (not (inTable (s .table .slots) a)) 10 _ tabled));
-      }
+      let m = met formed (not (inTable (s .table .slots) a)) (not (isHolder (s .bus) a)) 10 14 none in
+      record { told = m .told; known = not-false _ (m .not-second); holds = not-false _ (m .not-third) }
 
   pub record MayArbitrate : Type 0 where
     pub told : formed ≡ true
@@ -55,17 +59,13 @@ module _ (formed : Bool) (s : RackState) where
   pub may-arbitrate : arbitrateRefusal formed s ≡ 0 → MayArbitrate
   unfolding arbitrateRefusal
   may-arbitrate none =
-      let idle = after (not formed) 16 _ none in
-      record {
-        told = not-false _ (passed (not formed) 16 _ none);
-        free = passed (isClosed (s .bus)) 12 _ idle;
-        some = not-false _ (passed (not (anyBelow 64 (waits s))) 13 _ (after (isClosed (s .bus)) 12 _ idle));
-      }
+      let m = met formed (isClosed (s .bus)) (not (anyBelow 64 (waits s))) 12 13 none in
+      record { told = m .told; free = m .not-second; some = not-false _ (m .not-third) }
 
--- a chain of three refusals in code, whose last two tests mean these
-pub chained : {r₁ r₂ r₃ : ℕ} (t₁ t₂ t₃ : Bool) {u₂ u₃ : Bool} (x y z : ℕ) → r₃ ≡ cond t₁ x r₂ → r₂ ≡ cond t₂ y r₁ → r₁ ≡ cond t₃ z 0 → t₂ ≡ u₂ → t₃ ≡ u₃
-    → r₃ ≡ cond t₁ x (cond u₂ y (cond u₃ z 0))
-chained t₁ t₂ t₃ x y z p q r e f = rw (p, q, r, e, f)
+-- a refusal that the code works out, whose two tests mean these
+pub worked-out : {r : ℕ} (formed t₁ t₂ : Bool) {u₁ u₂ : Bool} (x y : ℕ) → r ≡ cond (not formed) 17 (cond t₁ x (cond t₂ y 0)) → t₁ ≡ u₁ → t₂ ≡ u₂
+    → r ≡ cond (not formed) 17 (cond u₁ x (cond u₂ y 0))
+worked-out formed t₁ t₂ x y p e f = p ∙ rw (e, f)
 
 -- a number past the 64 is in no table, so that whether it waits is not asked
 pub asks-in-range : (formed : Bool) (slots : List ℕ) (waiting : List Bool) (a : ℕ)

@@ -25,13 +25,19 @@ byRule (suc (suc (suc n))) fixed robin arrival other = other
 unfoldable pub linesOf : RackState → ℕ
 linesOf s = byRule (s .table .rule) (s .table .k) (s .table .k + 1) (s .table .k * 2) 0
 
--- the competing number of a waiting card a
-unfoldable pub numberOf : RackState → ℕ → ℕ
-numberOf s a =
-    byRule (s .table .rule) a
-    (cond (ltb a (s .last)) (a + 2 ^ s .table .k) a)
-    (a + 2 ^ s .table .k * countOf s a)
+-- the competing number of a card a with this waiting count: under rule 0 a; under rule 1 a, plus 2 ^ k if a is less than the last winner; under
+-- rule 2 a plus 2 ^ k times its count
+unfoldable pub numberBy : ℕ → ℕ → ℕ → ℕ → ℕ → ℕ
+numberBy k rule last count a =
+    byRule rule a
+    (cond (ltb a last) (a + 2 ^ k) a)
+    (a + 2 ^ k * count)
     0
+
+-- that of a waiting card a in the state s
+unfoldable pub numberOf : RackState → ℕ → ℕ
+unfolding numberBy
+numberOf s a = numberBy (s .table .k) (s .table .rule) (s .last) (countOf s a) a
 
 -- the waiting cards compete
 unfoldable pub competes : RackState → ℕ → Bool
@@ -92,10 +98,12 @@ arbitrated s = cond (eqb (settlingOf s .answer) 0) (wonBy s (winnerOf s) (settli
 unfoldable pub arbitrateRefusal : Bool → RackState → ℕ
 arbitrateRefusal formed s = cond (not formed) 17 (cond (isClosed (s .bus)) 13 (cond (not (anyBelow 64 (waits s))) 14 0))
 
--- a number width over 6 is that of no well-formed state, whatever the event is told
+-- As the event is told whether the state is well formed. It asks the width again, since a caller may tell it what is not so, and 2 ^ k is worked out
+-- in 16 bits: a width over 6 is that of no well-formed state, so 17 is the answer there too.
 abbrev pub arbitrateBy : Bool → RackState → Outcome
 arbitrateBy formed s = answeredBy (arbitrateRefusal (formed && leb (s .table .k) 6) s) s (arbitrated s)
 
+-- The event of document 01. A well-formed state has a width of at most 6, so this is `arbitrateBy` told the truth: law `told-truth` of the proofs.
 abbrev pub arbitrateOf : RackState → Outcome
 arbitrateOf s = answeredBy (arbitrateRefusal (wellFormed s) s) s (arbitrated s)
 

@@ -2,8 +2,8 @@
 use Prim.Native.Nat.{ℕ, _^_}
 use mathlib.Core.Bool.{Bool, true, false, not, _&&_, _||_}
 use mathlib.Core.List.{List}
-use lib.ListN.{length, getD, replicate}
 use lib.Dec.{ltb, eqb}
+use lib.ListN.{length, getD, replicate}
 use Rattle.cards.specs.Below.{allBelow}
 use Rattle.cards.specs.Table.{hasCard, inTable, tableGood}
 use Rattle.cards.specs.declared.Table.{Table}

@@ -1,5 +1,5 @@
-// What events answer: chains of refusals, replies and outcomes.
-ghost use mathlib.Core.Bool.{cond};
+// What events answer: refusals, replies and outcomes.
+ghost use mathlib.Core.Bool.{cond, not};
 ghost use mathlib.Core.Path.{_≡_};
 ghost use Rattle.rack.specs.Events.{answered};
 ghost use Rattle.rack.specs.Lent.{quietReply, outcomeFrom};
@@ -9,14 +9,20 @@ use super::RackState;
 use super::Reply;
 use cards::Table;
 
-// The number where the test holds, and else the rest: a table of refusals is a chain of these, the first match first.
-pub(crate) fn first(test: bool, number: u8, rest: u8) -> u8
-    ensures { λ r. ⌜ r ≡ cond test number rest ⌝ }
+// The first refusal that fits: 17 for a state that is not well formed, then the number of the first test that holds; or 0.
+pub(crate) fn refusal_by(formed: bool, test: bool, number: u8, next: bool, other: u8) -> u8
+    ensures { λ r. ⌜ r ≡ cond (not formed) 17 (cond test number (cond next other 0)) ⌝ }
 {
+    if !formed {
+        return 17;
+    }
     if test {
         return number;
     }
-    rest
+    if next {
+        return other;
+    }
+    0
 }
 
 // An answer with winner, lines and stages 0: a refusal, or a request or a release that is done.

@@ -1,13 +1,12 @@
 // Arbitration: the competing numbers, their settling, and the grant.
 // What is called for each card takes the numbers that it reads, and not the state, which would be copied each time.
-ghost use Prim.Native.Nat.{ℕ, _+_, _*_, _≤_, _<_};
+ghost use Prim.Native.Nat.{ℕ, _+_, _*_, _^_, _≤_, _<_};
 ghost use mathlib.Core.Bool.{true, false, cond};
 ghost use mathlib.Core.List.{List};
 ghost use mathlib.Core.Path.{_≡_};
-ghost use lib.Dec.{ltb};
 ghost use lib.ListN.{getD};
 ghost use Rattle.cards.specs.Below.{anyBelow, tabulate};
-ghost use Rattle.rack.specs.Arbitrate.{byRule, settlingOf, fullLoser, someLoserFull, oneMore, wonBy};
+ghost use Rattle.rack.specs.Arbitrate.{arbitrated, byRule, fullLoser, numberBy, oneMore, settlingOf, someLoserFull, wonBy};
 ghost use Rattle.rack.specs.Lent.{stateOf, tableOf, Leaves};
 ghost use Rattle.rack.specs.Shown.{shownAt};
 ghost use Rattle.rack.specs.State.{waitsIn};
@@ -44,10 +43,10 @@ pub(crate) fn lines_of(k: u8, rule: u8) -> u8
     }
 }
 
-// The competing number of the card a.
+// The competing number of the card a, where the span is 2 to the number width.
 pub(crate) fn number_by(rule: u8, span: u16, last: u8, a: usize, count: u8) -> u16
     requires { ⌜ (a < 64) × (span ≤ 64) ⌝ }
-    ensures { λ r. ⌜ r ≡ byRule rule a (cond (ltb a last) (a + span) a) (a + span * count) 0 ⌝ }
+    ensures { λ r. ⌜ ((k : ℕ) → span ≡ 2 ^ k → r ≡ numberBy k rule last count a) ⌝ }
 {
     let own = a as u16;
     match rule {
@@ -74,7 +73,13 @@ pub(crate) fn shown(competes: bool, number: u16) -> u16
 }
 
 // What each card shows the lines.
-pub(crate) fn numbers_of(k: u8, rule: u8, last: u8, waiting: &[bool; 64], counts: &[u8; 64]) -> [u16; 64]
+pub(crate) fn numbers_of(
+    k: u8,
+    rule: u8,
+    last: u8,
+    waiting: &[bool; 64],
+    counts: &[u8; 64],
+) -> [u16; 64]
     requires { ⌜ k ≤ 6 ⌝ }
     ensures { λ r. ⌜ r ≡ tabulate 64 (shownAt k rule last (now (waiting .entry)) (now (counts .entry))) ⌝ }
 {
@@ -87,9 +92,16 @@ pub(crate) fn numbers_of(k: u8, rule: u8, last: u8, waiting: &[bool; 64], counts
 }
 
 // The settling of the competing cards.
-pub(crate) fn settling_of(k: u8, rule: u8, last: u8, waiting: &[bool; 64], counts: &[u8; 64]) -> Settled
+pub(crate) fn settling_of(
+    k: u8,
+    rule: u8,
+    last: u8,
+    waiting: &[bool; 64],
+    counts: &[u8; 64],
+) -> Settled
     requires { ⌜ k ≤ 6 ⌝ }
-    ensures { λ r. ⌜ ((slots : List ℕ) (bus : Bus) → r ≡ settlingOf (stateOf (tableOf k rule slots) (now (waiting .entry)) (now (counts .entry)) (record { last = last; bus = bus }))) ⌝ }
+    ensures { λ r. ⌜ ((slots : List ℕ) (bus : Bus)
+        → r ≡ settlingOf (stateOf (tableOf k rule slots) (now (waiting .entry)) (now (counts .entry)) (record { last = last; bus = bus }))) ⌝ }
 {
     let m = lines_of(k, rule);
     let numbers = numbers_of(k, rule, last, waiting, counts);
@@ -110,9 +122,16 @@ pub(crate) fn some_full_loser(full: u8, waiting: &[bool; 64], counts: &[u8; 64],
 }
 
 // Under rule 2 alone: refusal 16.
-pub(crate) fn some_loser_full(k: u8, rule: u8, waiting: &[bool; 64], counts: &[u8; 64], w: u8) -> bool
+pub(crate) fn some_loser_full(
+    k: u8,
+    rule: u8,
+    waiting: &[bool; 64],
+    counts: &[u8; 64],
+    w: u8,
+) -> bool
     requires { ⌜ k ≤ 6 ⌝ }
-    ensures { λ r. ⌜ ((slots : List ℕ) (hold : Hold) → r ≡ someLoserFull (stateOf (tableOf k rule slots) (now (waiting .entry)) (now (counts .entry)) hold) w) ⌝ }
+    ensures { λ r. ⌜ ((slots : List ℕ) (hold : Hold)
+        → r ≡ someLoserFull (stateOf (tableOf k rule slots) (now (waiting .entry)) (now (counts .entry)) hold) w) ⌝ }
 {
     if rule == 2 {
         let full = (span(k) - 1) as u8;
@@ -145,9 +164,19 @@ pub(crate) fn one_more_each(waiting: &[bool; 64], counts: &[u8; 64]) -> [u8; 64]
 }
 
 // The outcome where w wins with these settled lines, on the lent marks: refusal 16, or the grant.
-pub(crate) fn granted_in(k: u8, rule: u8, waiting: &mut [bool; 64], counts: &mut [u8; 64], hold: Hold, w: u8, t: Settled) -> Reply
+pub(crate) fn granted_in(
+    k: u8,
+    rule: u8,
+    waiting: &mut [bool; 64],
+    counts: &mut [u8; 64],
+    hold: Hold,
+    w: u8,
+    t: Settled,
+) -> Reply
     requires { ⌜ (w < 64) × (k ≤ 6) ⌝ }
-    ensures { λ r. ⌜ ((slots : List ℕ) → Leaves (wonBy (stateOf (tableOf k rule slots) (now (waiting .entry)) (now (counts .entry)) hold) w t) r (now (waiting .exit)) (now (counts .exit))) ⌝ }
+    ensures { λ r. ⌜ ((slots : List ℕ)
+        → Leaves (wonBy (stateOf (tableOf k rule slots) (now (waiting .entry)) (now (counts .entry)) hold) w t) r
+        (now (waiting .exit)) (now (counts .exit))) ⌝ }
 {
     if some_loser_full(k, rule, waiting, counts, w) {
         return quiet(hold, 16);
@@ -169,4 +198,25 @@ pub(crate) fn granted_in(k: u8, rule: u8, waiting: &mut [bool; 64], counts: &mut
         lines: t.lines,
         stages: t.stages,
     }
+}
+
+// The outcome of the settling, on the lent marks. The winner is the settled value modulo 2 ^ k. A state whose settling is refused is not well formed.
+pub(crate) fn arbitrated_in(
+    hold: Hold,
+    k: u8,
+    rule: u8,
+    waiting: &mut [bool; 64],
+    counts: &mut [u8; 64],
+) -> Reply
+    requires { ⌜ k ≤ 6 ⌝ }
+    ensures { λ r. ⌜ ((slots : List ℕ)
+        → Leaves (arbitrated (stateOf (tableOf k rule slots) (now (waiting .entry)) (now (counts .entry)) hold)) r
+        (now (waiting .exit)) (now (counts .exit))) ⌝ }
+{
+    let t = settling_of(k, rule, hold.last, waiting, counts);
+    if t.answer != 0 {
+        return quiet(hold, 17);
+    }
+    let w = (t.lines % span(k)) as u8;
+    granted_in(k, rule, waiting, counts, hold, w, t)
 }

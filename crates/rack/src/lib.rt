@@ -126,7 +126,14 @@ pub fn arbitrate(s: RackState) -> Outcome
     let mut counts = s.counts;
     let bus = s.bus;
     let hold = Hold { last: s.last, bus };
-    let r = arbitrate_in(well_formed(s), table.k, table.rule, &mut waiting, &mut counts, hold);
+    let r = arbitrate_in(
+        well_formed(s),
+        table.k,
+        table.rule,
+        &mut waiting,
+        &mut counts,
+        hold,
+    );
     outcome_of(table, waiting, counts, r)
 }
 

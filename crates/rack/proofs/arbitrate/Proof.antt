@@ -1,5 +1,5 @@
 -- `rack::arbitrate` meets its contract: the outcome is made again from what the event on lent marks leaves. Assumes nothing.
-use mathlib.Core.Path.{refl, _∙_}
+use mathlib.Core.Path.{_∙_}
 use borrow.Author.Needs.{needs}
 use Rattle.rack.proofs.Leaving.{table-kept, arbitrated-table, outcome-again}
 use Rattle.rack.proofs.Refusals.{told-truth}

@@ -1,6 +1,5 @@
 -- `rack::arbitration::granted_in` meets its contract: by whether a loser's count is full. Assumes nothing.
 use Prim.Native.Nat.{ℕ}
-use mathlib.Core.Bool.{false}
 use mathlib.Core.List.{List, []}
 use mathlib.Core.Path.{_≡_, refl, sym, _∙_}
 use borrow.Author.Needs.{needs}
@@ -46,7 +45,8 @@ one-more-each-requires : tie.Need-one-more-each-requires
 one-more-each-requires c κs =
     let tested = c .before .before .before .before in
     let given = given tested [] in
-    loser-room (state tested []) (given .args .w) (full tested [] ∙ c .before .before .before .if1 .left) (given .pre .1) (c .before .before .if2 .taken)
+    loser-room (state tested []) (given .args .w) (full tested [] ∙ c .before .before .before .if1 .left)
+    (given .pre .1) (c .before .before .if2 .taken)
 
 returns-2 : tie.Need-returns-2
 unfolding wonBy granted losersCounted

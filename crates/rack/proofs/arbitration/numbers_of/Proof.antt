@@ -1,11 +1,12 @@
-use Rattle.rack.proofs.Filled.{Filled, filled-none, filled-more, filled-all}
-use Rattle.rack.specs.Shown.{shownAt}
-use mathlib.Core.Path.{refl}
+-- `rack::arbitration::numbers_of` meets its contract: the places passed are filled. Assumes nothing.
 use Prim.Native.Nat.{_≤_, _-_}
 use native.Mathlib.Omega.{arith}
+use mathlib.Core.Path.{refl}
 use borrow.Author.Needs.{needs}
+use Rattle.rack.proofs.Filled.{Filled, filled-none, filled-more, filled-all}
 use Rattle.rack.proofs.arbitration.numbers_of.Statement.{statement}
 use Rattle.rack.proofs.arbitration.numbers_of.Tie as tie
+use Rattle.rack.specs.Shown.{shownAt}
 
 abbrev Inv-loop : tie.InvT-loop
 Inv-loop k rule last waiting counts span numbers₀ a₀ numbers a = (a ≤ 64) × Filled 64 (shownAt k rule last waiting counts) a numbers
@@ -47,7 +48,8 @@ loop-again : tie.Need-loop-again Inv-loop μ-loop
 unfolding shownAt
 loop-again c =
     let at-loop = c .before .before .before .before .before in
-    (search needs, filled-more 64 _ _ _ _ (search needs) (at-loop .loop .inv .1) (rw (c .shown .ensures, c .before .number-by .ensures, at-loop .before .span .ensures .0)))
+    let number = c .before .number-by .ensures _ (at-loop .before .span .ensures .0) in
+    (search needs, filled-more 64 _ _ _ _ (search needs) (at-loop .loop .inv .1) (rw (c .shown .ensures, number)))
 
 returns : tie.Need-returns Inv-loop μ-loop
 returns c = filled-all 64 _ _ _ (omega arith) (c .before .loop .inv .1)

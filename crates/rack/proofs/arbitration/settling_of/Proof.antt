@@ -29,7 +29,8 @@ unfolding linesOf
 returns c slots bus =
     let given = c .before .before .before .before .before .before .args in
     let s = stateOf (tableOf (given .k) (given .rule) slots) (given .waiting .now) (given .counts .now) (record { last = given .last; bus = bus }) in
-    rw (c .before .settle .ensures .result, c .before .before .before .before .numbers-of .ensures, c .before .before .before .before .before .lines-of .ensures)
+    let shown = c .before .before .before .before in
+    rw (c .before .settle .ensures .result, shown .numbers-of .ensures, shown .before .lines-of .ensures)
     (result-silent (linesOf s) 13 (shown-silent s 64) (rw tabulate-length (omega arith)))
 
 pub settling-of-spec : {M : Type 1} → statement M

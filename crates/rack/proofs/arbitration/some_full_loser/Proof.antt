@@ -1,7 +1,7 @@
 -- `rack::arbitration::some_full_loser` meets its contract: `some` is the test over the numbers passed. Assumes nothing.
 use Prim.Native.Nat.{_≤_, _-_}
 use native.Mathlib.Omega.{arith}
-use mathlib.Core.Path.{_≡_}
+use mathlib.Core.Path.{_≡_, refl}
 use borrow.Author.Needs.{needs}
 use Rattle.cards.proofs.Below.{any-none, any-more}
 use Rattle.cards.specs.Below.{anyBelow}
@@ -31,7 +31,7 @@ loop-less : tie.Need-loop-less Inv-loop μ-loop
 loop-less c = search needs
 
 loop-again : tie.Need-loop-again Inv-loop μ-loop
-loop-again c = (search needs, rw (any-more, c .before .before .before .loop .inv .1))
+loop-again c = (search needs, rw (any-more, c .before .before .before .loop .inv .1) refl)
 
 returns : tie.Need-returns Inv-loop μ-loop
 returns c = let done : c .before .loop .a ≡ 64 = omega arith in rw (← done) (c .before .loop .inv .1)

@@ -1,18 +1,18 @@
 -- `rack::lent::request_in` meets its contract: by the refusal, whose chain is the definition's. Assumes nothing.
 use Prim.Native.Nat.{ℕ, _<_}
+use mathlib.Core.Bool.{true, not}
 use mathlib.Core.Path.{_≡_, sym, ap, _∙_}
+use lib.ListN.{set}
 use borrow.Author.Needs.{needs}
 use Rattle.cards.proofs.TableKnown.{table-range}
 use Rattle.cards.specs.declared.Table.{Table}
 use Rattle.rack.proofs.Leaving.{leaves-answered, leaves-refused, leaves-done}
-use Rattle.rack.proofs.Refusals.{may-request, chained, asks-in-range}
+use Rattle.rack.proofs.Refusals.{may-request, worked-out, asks-in-range}
 use Rattle.rack.proofs.lent.request_in.Statement.{statement}
 use Rattle.rack.proofs.lent.request_in.Tie as tie
 use Rattle.rack.specs.Events.{requestRefusal}
 use Rattle.rack.specs.Lent.{stateOf, tableOf}
 use Rattle.rack.specs.declared.RackState.{RackState}
-use lib.ListN.{set}
-use mathlib.Core.Bool.{true, not}
 
 in-table-requires : tie.Need-in-table-requires
 in-table-requires c κs = search needs
@@ -20,22 +20,16 @@ in-table-requires c κs = search needs
 waits-at-requires : tie.Need-waits-at-requires
 waits-at-requires c κs = search needs
 
-first-requires : tie.Need-first-requires
-first-requires c κs = search needs
-
-first-requires-2 : tie.Need-first-requires-2
-first-requires-2 c κs = search needs
-
-first-requires-3 : tie.Need-first-requires-3
-first-requires-3 c κs = search needs
+refusal-by-requires : tie.Need-refusal-by-requires
+refusal-by-requires c κs = search needs
 
 quiet-requires : tie.Need-quiet-requires
 quiet-requires c κs = search needs
 
 -- the chain is the definition's, whatever the width and the rule are
-module _ (c : tie.After-first3) (k rule : ℕ) where
+module _ (c : tie.After-refusal-by) (k rule : ℕ) where
   abbrev given : tie.Start
-  given = c .before .before .before .before .before .before
+  given = c .before .before .before .before
 
   abbrev table : Table
   table = tableOf k rule (given .args .slots .now)
@@ -43,15 +37,15 @@ module _ (c : tie.After-first3) (k rule : ℕ) where
   abbrev state : RackState
   state = stateOf table (given .args .waiting .now) (given .args .counts .now) (given .args .hold)
 
-  told : c .first3 .result ≡ requestRefusal (given .args .formed) state (given .args .a)
+  told : c .refusal-by .result ≡ requestRefusal (given .args .formed) state (given .args .a)
   unfolding requestRefusal
   told =
-      let tests = c .before .before .before in
-      chained (not (given .args .formed)) (not (tests .before .before .in-table .result)) (tests .waits-at .result) 17 11 12 (c .first3 .ensures) (c .before .first2 .ensures) (c .before .before .first .ensures)
-      (ap not (tests .before .before .in-table .ensures)) (tests .waits-at .ensures)
+      let known = c .before .before .before .in-table in
+      let waits = c .before .waits-at in
+      worked-out (given .args .formed) (not (known .result)) (waits .result) 11 12 (c .refusal-by .ensures) (ap not (known .ensures)) (waits .ensures)
       ∙ asks-in-range (given .args .formed) (given .args .slots .now) (given .args .waiting .now) (given .args .a)
 
-  below : c .first3 .result ≡ 0 → given .args .a < 64
+  below : c .refusal-by .result ≡ 0 → given .args .a < 64
   below none = table-range _ _ (may-request (given .args .formed) state (given .args .a) (sym told ∙ none) .known)
 
 returns : tie.Need-returns
@@ -89,9 +83,7 @@ request-in-spec =
     (tie.spec
     in-table-requires
     waits-at-requires
-    first-requires
-    first-requires-2
-    first-requires-3
+    refusal-by-requires
     quiet-requires
     returns
     element-write-waiting
