@@ -21,6 +21,8 @@ use Rattle.rack.specs.declared.Hold.{Hold}
 use Rattle.rack.specs.declared.Outcome.{Outcome}
 use Rattle.rack.specs.declared.RackState.{RackState}
 use Rattle.rack.specs.declared.Reply.{Reply}
+use Rattle.trace.specs.Line.{lineOf, textOf}
+use Rattle.trace.specs.Listing.{Lists}
 
 -- ---- a contract admits one result: of a function that is lent nothing, one buffer, or the two arrays of marks
 
@@ -111,6 +113,17 @@ release-in-determined formed slots hold a x y p q = one-result (p .left 0 0 [] [
 pub arbitrate-in-determined : (formed : Bool) (k rule : ℕ) (waiting : List Bool) (counts : List ℕ) (hold : Hold)
     → DeterminedMarks (Arbitrates formed k rule waiting counts hold)
 arbitrate-in-determined formed k rule waiting counts hold x y b c l m p q = one-reply x y b c l m (p .left []) (q .left [])
+
+-- ---- trace
+
+pub parse-determined : (letter gap tens ones end : ℕ) → Determined (λ r. r ≡ lineOf letter gap tens ones end)
+parse-determined letter gap tens ones end x y = one-result
+
+pub text-determined : (a b c d answer winner lines stages : ℕ) → Determined (λ r. r ≡ textOf a b c d answer winner lines stages)
+text-determined a b c d answer winner lines stages x y = one-result
+
+pub run-determined : (s : RackState) (trace buffer : List ℕ) → DeterminedLeft (Lists s trace buffer)
+run-determined s trace buffer x y b c p q = one-result-left (p .result, p .left) (q .result, q .left)
 
 -- ---- laptop
 

@@ -1,14 +1,14 @@
 -- Laws of the trace's definitions, which the proofs of its functions cite. Assumes nothing.
 use Prim.Native.Nat.{ℕ, zero, suc, _+_, _-_, _*_, _≤_, _<_}
-use native.Mathlib.Nat.{le-of-lt, add-zero, add-suc}
+use native.Mathlib.Nat.{add-zero, add-suc}
 use native.Mathlib.Numerals.{add-one}
 use native.Mathlib.Omega.{arith}
-use mathlib.Core.Bool.{Bool, true, false, cond, _&&_}
-use mathlib.Core.List.{List, [], _∷_, _++_, append-assoc, append-nil}
+use mathlib.Core.Bool.{Bool, true, false, _&&_}
+use mathlib.Core.List.{List, _++_, append-assoc, append-nil}
 use mathlib.Core.Path.{_≡_, refl, sym, ap, _∙_}
 use lib.Dec.{leb, eqb}
-use lib.ListN.{length, getD, take, drop, set, length-append, length-drop, drop-of-length-le}
-use lib.Seq.{drop-cons, take-suc, set-at, take-at, drop-at, drop-drop, length-take-le, append-snoc, take-length, take-all}
+use lib.ListN.{length, take, drop, length-append, length-drop, drop-of-length-le}
+use lib.Seq.{take-at, drop-at, drop-drop, take-all}
 use borrow.Author.Tests.{leb-true}
 use Rattle.cards.specs.declared.Table.{Table}
 use Rattle.rack.proofs.Kept.{same-form}
@@ -21,18 +21,9 @@ use Rattle.rack.specs.declared.Hold.{Hold}
 use Rattle.rack.specs.declared.RackState.{RackState}
 use Rattle.rack.specs.declared.Reply.{Reply}
 use Rattle.trace.specs.Line.{isDigit, shaped, isMalformed, lineOutcome, textOf, lineText}
-use Rattle.trace.specs.Listing.{lineIn, textIn, Listed, lineAt, Listing, noLines, withLine, listing, ranOf}
+use Rattle.trace.specs.Listing.{lineIn, textIn, Listed, lineAt, Listing, withLine, listing, ranOf}
 use Rattle.trace.specs.declared.Line.the-variants.{Request, Arbitrate, Release, Malformed}
 use Rattle.trace.specs.declared.Line.{Line}
-
--- a copy of s to the front of d, one element more
-pub copy-next : (s d : List ℕ) (i : ℕ) → i < length s → i < length d
-    → set (take i s ++ drop i d) i (getD s i 0) ≡ take (i + 1) s ++ drop (i + 1) d
-copy-next s d i hs hd =
-    rw (add-one i, drop-cons d i 0 hd, set-at (take i s) (getD d i 0) (drop (suc i) d) (getD s i 0) i (length-take-le i s (le-of-lt hs)), take-suc s i 0 hs, append-snoc)
-
-pub copy-done : (s d : List ℕ) (i n : ℕ) → i ≡ n → n ≡ length s → take i s ++ drop i d ≡ s ++ drop n d
-copy-done s d i n e l = rw (e, l, take-length)
 
 -- a byte that is a digit
 digit-range : (b : ℕ) → isDigit b ≡ true → (48 ≤ b) × (b ≤ 57)
@@ -43,16 +34,16 @@ pub shaped-digits : (gap tens ones end : ℕ) → shaped gap tens ones end ≡ t
 unfolding shaped
 shaped-digits gap tens ones end h =
     let front = and-left (eqb gap 32 && isDigit tens && isDigit ones) _ h in
-    (digit-range tens (and-right (eqb gap 32) _ (and-left (eqb gap 32 && isDigit tens) _ front)), digit-range ones (and-right (eqb gap 32 && isDigit tens) _ front))
+    let first = and-right (eqb gap 32) _ (and-left (eqb gap 32 && isDigit tens) _ front) in
+    (digit-range tens first, digit-range ones (and-right (eqb gap 32 && isDigit tens) _ front))
 
 -- a line put at the front of the part of a buffer that begins at `start`
 pub part-put : (now line : List ℕ) (start n : ℕ)
     → take start now ++ ((line ++ drop n (take (length now - start) (drop start now))) ++ drop (length now - start) (drop start now))
     ≡ take start now ++ (line ++ drop (start + n) now)
 part-put now line start n =
-    let none : drop (length now - start) (drop start now) ≡ [] = drop-of-length-le (drop start now) {i = length now - start} (simp length-drop (omega arith)) in
-    let all : take (length now - start) (drop start now) ≡ drop start now = take-all (length now - start) (drop start now) (simp length-drop (omega arith)) in
-    rw (none, all, append-nil, drop-drop)
+    let all : length (drop start now) ≤ length now - start = simp length-drop (omega arith) in
+    rw (drop-of-length-le (drop start now) {i = length now - start} all, take-all (length now - start) (drop start now) all, append-nil, drop-drop)
 
 -- and one written after what stands at the front of the buffer
 line-after : (head line buffer now : List ℕ) (start n : ℕ) → length head ≡ start → now ≡ head ++ drop start buffer
@@ -65,14 +56,17 @@ line-after head line buffer now start n e whole =
 
 -- ---- one line
 
-pub text-length : (trace : List ℕ) (n : ℕ) (line : Line) (answer winner lines stages : ℕ) → length (textIn trace n line answer winner lines stages) ≡ 19
-unfolding textIn lineText textOf
-text-length trace n line answer winner lines stages = go (isMalformed line)
-  where
-    go : (b : Bool) → length (cond b (textOf 45 45 45 45 answer winner lines stages)
-        (textOf (getD trace (5 * n) 0) (getD trace (5 * n + 1) 0) (getD trace (5 * n + 2) 0) (getD trace (5 * n + 3) 0) answer winner lines stages)) ≡ 19
-    go true = refl
-    go false = refl
+line-length : (a b c d : ℕ) (line : Line) (answer winner lines stages : ℕ) → length (lineText a b c d line answer winner lines stages) ≡ 19
+unfolding lineText textOf
+line-length a b c d (Request n) answer winner lines stages = refl
+line-length a b c d Arbitrate answer winner lines stages = refl
+line-length a b c d (Release n) answer winner lines stages = refl
+line-length a b c d Malformed answer winner lines stages = refl
+
+pub text-length : (trace : List ℕ) (n : ℕ) (line : Line) (answer winner lines stages : ℕ)
+    → length (textIn trace n line answer winner lines stages) ≡ 19
+unfolding textIn
+text-length trace n = line-length _ _ _ _
 
 -- no line changes the table
 pub same-table : (s : RackState) (line : Line) → lineOutcome s line .state .table ≡ s .table
@@ -95,7 +89,7 @@ line-keeps s Malformed = refl
 pub listing-more : (s : RackState) (trace : List ℕ) (n : ℕ) → listing s trace n .ended ≡ false
     → listing s trace (n + 1) ≡ withLine (listing s trace n) (lineAt (listing s trace n .state) trace n)
 unfolding listing
-listing-more s trace n h = rw (add-one, h)
+listing-more s trace n h = rw (add-one n, h)
 
 -- what a line that ended the listing left stays
 pub ended-stays : (s : RackState) (trace : List ℕ) (n m : ℕ) → listing s trace n .ended ≡ true → listing s trace (n + m) ≡ listing s trace n
@@ -103,7 +97,8 @@ unfolding listing
 ended-stays s trace n zero h = rw add-zero
 ended-stays s trace n (suc m) h = rw (add-suc, ended-stays s trace n m h, h)
 
-pub ran-as : (l : Listing) (state : RackState) (read written : ℕ) (ended : Bool) → state ≡ l .state → read ≡ 5 * l .lines → written ≡ 19 * l .lines → ended ≡ l .ended
+pub ran-as : (l : Listing) (state : RackState) (read written : ℕ) (ended : Bool)
+    → state ≡ l .state → read ≡ 5 * l .lines → written ≡ 19 * l .lines → ended ≡ l .ended
     → record { state = state; read = read; written = written; ended = ended } ≡ ranOf l
 ran-as l state read written ended a b c d = rw (a, b, c, d)
 
@@ -119,7 +114,8 @@ pub going-none : (s : RackState) (trace buffer : List ℕ) → Going s trace buf
 unfolding listing
 going-none s trace buffer = record { at = refl; running = refl; count = refl; size = refl; left = refl }
 
-module _ (s : RackState) (trace buffer : List ℕ) (n : ℕ) (state : RackState) (now : List ℕ) (g : Going s trace buffer n state now) (line : Listed) (is : line ≡ lineAt state trace n) where
+module _ (s : RackState) (trace buffer : List ℕ) (n : ℕ) (state : RackState) (now : List ℕ) (g : Going s trace buffer n state now)
+    (line : Listed) (is : line ≡ lineAt state trace n) where
   same-line : lineAt (listing s trace n .state) trace n ≡ line
   same-line = rw (← g .at) (sym is)
 
@@ -174,7 +170,8 @@ all-gone s trace buffer n whole state now e g read written er ew =
 -- ---- a line answered on lent marks
 
 module _ (table : Table) (waiting : List Bool) (counts : List ℕ) (hold : Hold) (trace : List ℕ) (n : ℕ) (line : Line) (is : line ≡ lineIn trace n)
-    (r : Reply) (waiting′ : List Bool) (counts′ : List ℕ) (left : Leaves (lineOutcome (stateOf table waiting counts hold) line) r waiting′ counts′) where
+    (r : Reply) (waiting′ : List Bool) (counts′ : List ℕ)
+    (left : Leaves (lineOutcome (stateOf table waiting counts hold) line) r waiting′ counts′) where
   abbrev here : RackState
   here = stateOf table waiting counts hold
 

@@ -35,7 +35,8 @@ pub(crate) fn answer_line(
     line: Line,
 ) -> Reply
     requires { ⌜ formed ≡ wellFormed (stateOf (tableOf k rule (now slots)) (now waiting) (now counts) hold) ⌝ }
-    ensures { λ r. ⌜ Leaves (lineOutcome (stateOf (tableOf k rule (now (slots .entry))) (now (waiting .entry)) (now (counts .entry)) hold) line) r (now (waiting .exit)) (now (counts .exit)) ⌝ }
+    ensures { λ r. ⌜ Leaves (lineOutcome (stateOf (tableOf k rule (now (slots .entry))) (now (waiting .entry)) (now (counts .entry)) hold) line)
+        r (now (waiting .exit)) (now (counts .exit)) ⌝ }
 {
     match line {
         Line::Request(n) => request_in(formed, slots, waiting, counts, hold, n),

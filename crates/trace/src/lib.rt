@@ -106,7 +106,16 @@ pub fn run(s: RackState, input: &[u8], output: &mut [u8]) -> Ran
     let mut hold = Hold { last: s.last, bus };
     for n in 0..lines {
         let line = line_at(input, n);
-        let r = answer_line(formed, k, rule, &slots, &mut waiting, &mut counts, hold, line);
+        let r = answer_line(
+            formed,
+            k,
+            rule,
+            &slots,
+            &mut waiting,
+            &mut counts,
+            hold,
+            line,
+        );
         put_line(input, n, line, r, output);
         let next = r.hold;
         hold = next;

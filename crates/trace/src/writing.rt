@@ -21,33 +21,27 @@ pub(crate) fn last_digit(x: u16) -> u8
 pub(crate) fn quiet_text(a: u8, b: u8, c: u8, d: u8, answer: u8) -> [u8; 19]
     ensures { λ r. ⌜ r ≡ textOf a b c d answer 0 0 0 ⌝ }
 {
-    let answer10 = last_digit((answer / 10) as u16);
-    let answer1 = last_digit(answer as u16);
-    [
-        a,
-        b,
-        c,
-        d,
-        b' ',
-        answer10,
-        answer1,
-        b' ',
-        b'0',
-        b'0',
-        b' ',
-        b'0',
-        b'0',
-        b'0',
-        b'0',
-        b' ',
-        b'0',
-        b'0',
-        b'\n',
-    ]
+    let mut line = *b"     00 00 0000 00\n";
+    line[0] = a;
+    line[1] = b;
+    line[2] = c;
+    line[3] = d;
+    line[5] = last_digit((answer / 10) as u16);
+    line[6] = last_digit(answer as u16);
+    line
 }
 
 // A line of the listing, with all its digits.
-pub(crate) fn full_text(a: u8, b: u8, c: u8, d: u8, answer: u8, winner: u8, lines: u16, stages: u8) -> [u8; 19]
+pub(crate) fn full_text(
+    a: u8,
+    b: u8,
+    c: u8,
+    d: u8,
+    answer: u8,
+    winner: u8,
+    lines: u16,
+    stages: u8,
+) -> [u8; 19]
     ensures { λ r. ⌜ r ≡ textOf a b c d answer winner lines stages ⌝ }
 {
     let answer10 = last_digit((answer / 10) as u16);
@@ -88,7 +82,16 @@ pub(crate) fn line_text(a: u8, b: u8, c: u8, d: u8, line: Line, r: Reply) -> [u8
     ensures { λ t. ⌜ t ≡ lineText a b c d line (r .answer) (r .winner) (r .lines) (r .stages) ⌝ }
 {
     if is_malformed(line) {
-        return text(b'-', b'-', b'-', b'-', r.answer, r.winner, r.lines, r.stages);
+        return text(
+            b'-',
+            b'-',
+            b'-',
+            b'-',
+            r.answer,
+            r.winner,
+            r.lines,
+            r.stages,
+        );
     }
     text(a, b, c, d, r.answer, r.winner, r.lines, r.stages)
 }
@@ -106,7 +109,8 @@ pub(crate) fn put_front(src: [u8; 19], buf: &mut [u8])
 // Writes the answer to line n of the input to line n of the output.
 pub(crate) fn put_line(input: &[u8], n: usize, line: Line, r: Reply, output: &mut [u8])
     requires { ⌜ (5 * n + 4 < length (now input)) × (19 * n + 19 ≤ length (now output)) ⌝ }
-    ensures { λ _. ⌜ now (output .exit) ≡ (take (19 * n) (now (output .entry)) ++ (textIn (now (input .entry)) n line (r .answer) (r .winner) (r .lines) (r .stages) ++ drop (19 * n + 19) (now (output .entry)))) ⌝ }
+    ensures { λ _. ⌜ now (output .exit) ≡ (take (19 * n) (now (output .entry))
+        ++ (textIn (now (input .entry)) n line (r .answer) (r .winner) (r .lines) (r .stages) ++ drop (19 * n + 19) (now (output .entry)))) ⌝ }
 {
     let at = 5 * n;
     let to = 19 * n;

@@ -30,7 +30,8 @@ loop-holds c =
     let given = least .before .before .before .args in
     let in-trace = min-le-left (length (now (given .input)) / 5) (length (now (given .output)) / 19) in
     let in-room = min-le-right (length (now (given .input)) / 5) (length (now (given .output)) / 19) in
-    (omega arith, omega (arith, least .least .ensures), omega (arith, least .least .ensures), refl, going-none _ _ _, c .before .before .before .before .well-formed .ensures)
+    let formed = c .before .before .before .before .well-formed .ensures in
+    (omega arith, omega (arith, least .least .ensures), omega (arith, least .least .ensures), refl, going-none _ _ _, formed)
 
 line-at-requires : tie.Need-line-at-requires Inv-loop μ-loop
 line-at-requires c κs = omega arith
@@ -90,14 +91,14 @@ loop-again c =
     let next = one-further (s .table) (head at .loop .waiting) (head at .loop .counts) (head at .loop .hold) (now (given at .args .input)) (n at)
     (read at .line-at .result) (read at .line-at .ensures) _ _ _ answered
     s (now (given at .args .output)) (head at .loop .output) (inv .4) (sym (ends at) ∙ c .if1 .left) in
-    (
+    let still = formed-still (s .table) (head at .loop .waiting) (head at .loop .counts) (head at .loop .hold) (now (given at .args .input)) (n at)
+    (read at .line-at .result) (read at .line-at .ensures) _ _ _ answered in (
       omega (arith, more at),
       inv .1,
       inv .2,
       search needs,
       rw (put .put-line .ensures) next,
-      inv .5 ∙ sym (formed-still (s .table) (head at .loop .waiting) (head at .loop .counts) (head at .loop .hold) (now (given at .args .input)) (n at)
-      (read at .line-at .result) (read at .line-at .ensures) _ _ _ answered),
+      inv .5 ∙ sym still,
     )
 
 returns-2 : tie.Need-returns-2 Inv-loop μ-loop

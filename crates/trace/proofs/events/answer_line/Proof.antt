@@ -1,5 +1,4 @@
 -- `trace::events::answer_line` meets its contract: by the line, told the truth about the state. Assumes nothing.
-use mathlib.Core.Path.{_≡_}
 use borrow.Author.Needs.{needs}
 use Rattle.rack.proofs.Leaving.{leaves-answered}
 use Rattle.rack.proofs.Refusals.{told-truth}
@@ -10,7 +9,9 @@ use Rattle.trace.proofs.events.answer_line.Tie as tie
 use Rattle.trace.specs.Line.{lineOutcome}
 
 abbrev state : tie.Start → RackState
-state given = stateOf (tableOf (given .args .k) (given .args .rule) (given .args .slots .now)) (given .args .waiting .now) (given .args .counts .now) (given .args .hold)
+state given =
+    let table = tableOf (given .args .k) (given .args .rule) (given .args .slots .now) in
+    stateOf table (given .args .waiting .now) (given .args .counts .now) (given .args .hold)
 
 returns : tie.Need-returns
 unfolding lineOutcome

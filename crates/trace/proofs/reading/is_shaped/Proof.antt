@@ -1,3 +1,4 @@
+-- `trace::reading::is_shaped` meets its contract: its tests are the definition's. Assumes nothing.
 use mathlib.Core.Path.{refl}
 use Rattle.trace.proofs.reading.is_shaped.Statement.{statement}
 use Rattle.trace.proofs.reading.is_shaped.Tie as tie

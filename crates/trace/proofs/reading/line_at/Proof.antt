@@ -1,5 +1,4 @@
 -- `trace::reading::line_at` meets its contract: the five bytes are the definition's. Assumes nothing.
-use native.Mathlib.Omega.{arith}
 use borrow.Author.Needs.{needs}
 use Rattle.trace.proofs.reading.line_at.Statement.{statement}
 use Rattle.trace.proofs.reading.line_at.Tie as tie
