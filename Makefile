@@ -1,5 +1,23 @@
-.PHONY: test
+.PHONY: run test bench
+
+# The listing of the worked example.
+run: target/bin/racktrace
+	@cd examples/three-cards && ../../target/bin/racktrace <trace
+
+# The proved program; rt proves again only what has changed.
+target/bin/racktrace: crates.txt $(shell find crates -type f)
+	rt check racktrace
+	@touch $@
+
+target/staticlib/liblaptop.a: crates.txt $(shell find crates -type f)
+	rt staticlib laptop
+	@touch $@
 
 # The whole gate: proofs, must-fail edits, comparisons.
 test:
 	.ci/run
+
+# Ratios against a C peer, and the stack of a settling.
+bench: target/bin/racktrace target/staticlib/liblaptop.a
+	bench/run
+	bench/stack

@@ -6,8 +6,8 @@ use native.Mathlib.Omega.{arith}
 use mathlib.Core.Bool.{true, false, cond, or-true}
 use mathlib.Core.Logic.{⊎-elim}
 use mathlib.Core.Path.{_≡_, refl}
-use borrow.Author.Tests.{lt-ltb, le-ltb}
 use lib.Bits.{bitAnd, and-step, and-le-l}
+use borrow.Author.Tests.{lt-ltb, le-ltb}
 use Rattle.lines.specs.Settling.{outbid}
 
 -- the lines that carry 1 where the own bit is 0
@@ -43,6 +43,7 @@ is-outbid (suc m) lines own fits some =
 pub low-withdrawn : (m lines own : ℕ) → lines < 2 ^ suc m → 0 < conflict lines own → cond (outbid m (lines / 2) (own / 2)) 0 (own % 2) ≡ 0
 low-withdrawn m lines own fits some =
     ⊎-elim
-    (λ (none : conflict (lines / 2) (own / 2) ≡ 0). rw (not-outbid m (lines / 2) (own / 2) none) (omega (arith, conflict-low lines own, conflict-half lines own)))
+    (λ (none : conflict (lines / 2) (own / 2) ≡ 0).
+    rw (not-outbid m (lines / 2) (own / 2) none) (omega (arith, conflict-low lines own, conflict-half lines own)))
     (λ (above : 0 < conflict (lines / 2) (own / 2)). rw (is-outbid m (lines / 2) (own / 2) (omega (arith, pow-suc 2 m)) above))
     (eq-zero-or-pos (conflict (lines / 2) (own / 2)))

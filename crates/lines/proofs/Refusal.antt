@@ -1,21 +1,22 @@
 -- The refusals: a search through the competing numbers, and what holds where nothing is refused. Assumes nothing.
-use mathlib.Core.Path.{_≡_, refl, sym, ap, _∙_}
 use Prim.Native.Nat.{ℕ, zero, suc, _+_, _^_, _≤_, _<_}
 use native.Mathlib.Numerals.{add-one}
 use native.Mathlib.Omega.{arith}
 use mathlib.Core.Bool.{Bool, true, false, cond, _||_, true≢false}
 use mathlib.Core.List.{List, [], _∷_}
+use mathlib.Core.Path.{_≡_, refl, sym, ap}
 use lib.Dec.{leb, ltb, eqb}
 use lib.ListN.{length, getD, drop, drop-of-length-le}
-use lib.Seq.{drop-cons}
 use lib.Pow.{pow-pos}
+use lib.Seq.{drop-cons}
 use borrow.Author.Tests.{lt-leb, leb-false, le-ltb, ne-eqb}
-use Rattle.lines.specs.Settle.{someFrom, refusal, Accepted, Settles, Ran}
 use Rattle.lines.specs.Greatest.{greatest}
+use Rattle.lines.specs.Settle.{someFrom, refusal, Accepted, Settles, Ran}
 use Rattle.lines.specs.declared.Settled.{Settled}
 
 module _ (limit : ℕ) (numbers : List ℕ) (i : ℕ) where
-  pub from-more : (b : Bool) → i < length numbers → ((b || leb limit (getD numbers i 0)) || someFrom limit (drop (i + 1) numbers)) ≡ (b || someFrom limit (drop i numbers))
+  pub from-more : (b : Bool) → i < length numbers
+      → ((b || leb limit (getD numbers i 0)) || someFrom limit (drop (i + 1) numbers)) ≡ (b || someFrom limit (drop i numbers))
   unfolding someFrom
   from-more true less = refl
   from-more false less = rw (add-one i) (sym (ap (someFrom limit) (drop-cons numbers i 0 less)))
@@ -78,7 +79,8 @@ not-refused m numbers room some small few fits enough =
 
 -- the contract of a settling that is done, and of one that is refused
 module _ (m : ℕ) (numbers buffer : List ℕ) where
-  pub settles-done : (r : Settled) (last : List ℕ) → refusal m numbers (length buffer) ≡ 0 → Ran m numbers 0 buffer r last → Settles m numbers buffer r last
+  pub settles-done : (r : Settled) (last : List ℕ) → refusal m numbers (length buffer) ≡ 0
+      → Ran m numbers 0 buffer r last → Settles m numbers buffer r last
   settles-done r last none ran = record { result = rw none (ran .result); left = rw none (ran .left) }
 
   pub settles-refused : (answer : ℕ) → answer ≡ refusal m numbers (length buffer) → (answer ≡ 0 → ⊥)

@@ -1,15 +1,15 @@
 -- What a competitor applies, without a count of bits: the lines in conflict, joined with themselves at each shift, cover every line from the highest
--- conflict down, and the own bits there are withdrawn. Each step doubles the shifts, and each is the same for every number, so a list goes eight at a time.
--- Assumes nothing.
-use mathlib.Core.Path.{_≡_, refl, sym, ap, _∙_}
-use mathlib.Core.Logic.{⊎-elim}
-use Prim.Native.Nat.{ℕ, zero, suc, _+_, _-_, _*_, _/_, _%_, _^_, _≤_, _<_}
-use native.Mathlib.Omega.{arith}
+-- conflict down, and the own bits there are withdrawn. Each step doubles the shifts, and each is the same for every number, so a list goes eight at a
+-- time. Assumes nothing.
+use Prim.Native.Nat.{ℕ, zero, suc, _+_, _-_, _/_, _%_, _^_, _<_}
 use native.Mathlib.Nat.{pow-suc, eq-zero-or-pos, div-one, zero-div, zero-add, suc-add, div-div-eq-div-mul, mul-comm}
+use native.Mathlib.Omega.{arith}
+use mathlib.Core.Logic.{⊎-elim}
+use mathlib.Core.Path.{_≡_, refl, sym, ap, _∙_}
 use lib.Bits.{bitAnd, bitOr, and-step, and-le-l, or-step, or-zero-l, or-zero-r, or-shr}
-use Rattle.lines.specs.Settling.{applied}
 use Rattle.lines.proofs.Conflict.{conflict, conflict-half, not-outbid, low-withdrawn}
 use Rattle.lines.proofs.Join.{or-assoc}
+use Rattle.lines.specs.Settling.{applied}
 
 -- c joined with itself at each shift below w
 unfoldable pub reach : ℕ → ℕ → ℕ
@@ -31,7 +31,8 @@ reach-more : (a b c : ℕ) → reach (a + b) c ≡ bitOr (reach a c) (reach b (c
 unfolding reach
 reach-more zero b c = rw (zero-add, div-one, or-zero-l)
 reach-more (suc a) b c =
-    rw (suc-add, reach-more a b (c / 2), pow-suc 2 a, mul-comm (2 ^ a) 2, ← div-div-eq-div-mul c 2 (2 ^ a)) (sym (or-assoc c (reach a (c / 2)) (reach b (c / 2 / 2 ^ a))))
+    rw (suc-add, reach-more a b (c / 2), pow-suc 2 a, mul-comm (2 ^ a) 2, ← div-div-eq-div-mul c 2 (2 ^ a))
+    (sym (or-assoc c (reach a (c / 2)) (reach b (c / 2 / 2 ^ a))))
 
 pub reach-one : (c : ℕ) → c ≡ reach 1 c
 unfolding reach
@@ -69,7 +70,9 @@ applied-smeared (suc m) w lines own fits small word =
     ⊎-elim
     (λ (none : conflict lines own ≡ 0).
     let dark : x ≡ 0 = rw none (reach-none w) in
-    rw (not-outbid m (lines / 2) (own / 2) (omega (arith, conflict-half lines own))) (omega (arith, upper, and-step own x, and-le-l (own / 2) (x / 2), dark)))
+    rw (not-outbid m (lines / 2) (own / 2) (omega (arith, conflict-half lines own)))
+    (omega (arith, upper, and-step own x, and-le-l (own / 2) (x / 2), dark)))
     (λ (some : 0 < conflict lines own).
-    rw (low-withdrawn m lines own fits some) (omega (arith, upper, and-step own x, and-le-l (own / 2) (x / 2), reach-low w (conflict lines own) some word)))
+    rw (low-withdrawn m lines own fits some)
+    (omega (arith, upper, and-step own x, and-le-l (own / 2) (x / 2), reach-low w (conflict lines own) some word)))
     (eq-zero-or-pos (conflict lines own))

@@ -1,32 +1,44 @@
--- The definitions at work: the listing of document 01 is what they give, and the fixed rule is not fair, so that demand 3 is not vacuous.
--- Assumes nothing.
-use Prim.Native.Nat.{ℕ, _+_, _/_, _≤_}
+-- The definitions at work: the listing of document 01 and its known settlings that name a rule are what they give, and the fixed rule is not fair, so
+-- that demand 3 is not vacuous. Assumes nothing.
+use Prim.Native.Nat.{ℕ, _-_}
 use native.Mathlib.Omega.{arith}
+use mathlib.Core.List.{List, [], _∷_, map}
 use mathlib.Core.Path.{_≡_, refl}
-use mathlib.Core.List.{List, [], _∷_}
-use lib.ListN.{length}
+use lib.ListN.{drop, replicate}
+use Rattle.cardfile.specs.Format as format
 use Rattle.cards.specs.Below as below
 use Rattle.cards.specs.Table as table
-use Rattle.cards.specs.Format as format
 use Rattle.cards.specs.declared.Table.{Table}
+use Rattle.lines.specs.Known.{row, known}
 use Rattle.lines.specs.Settle as settle
 use Rattle.lines.specs.Settling as settling
-use Rattle.rack.specs.State.{wellFormed, markFits, freshOf}
-use Rattle.rack.specs.Events.{answeredBy, requestRefusal, releaseRefusal}
-use Rattle.rack.specs.Arbitrate as arbitrate
-use Rattle.rack.specs.Files.{loadOf}
-use Rattle.promises.specs.Runs.{Event, after, grants, times, cardsOf, WaitsThrough, WaitsAtGrants}
-use Rattle.promises.specs.Fairness.{AtMost, FairShare}
+use Rattle.promises.specs.Fairness.{AtMost, AtMostOthers, FairShare, Within}
+use Rattle.promises.specs.KnownRules.{Ruled, ruled, threeCards, settlingIn, played, all-ask, six-again, five-done, knownRules}
 use Rattle.promises.specs.Listing.{line, Q, A, R, replayed, file, listing}
+use Rattle.promises.specs.Runs.{Event, after, grants, times, timesOthers, cardsOf, WaitsThrough, WaitsAtGrants}
+use Rattle.rack.specs.Arbitrate as arbitrate
+use Rattle.rack.specs.Events.{answeredBy, requestRefusal, releaseRefusal}
+use Rattle.rack.specs.Files.{loadOf}
+use Rattle.rack.specs.State.{wellFormed, markFits, freshOf}
 
 -- whoever unfolds this computes with the whole machine
 machine : Type 0
-unfolding below.allBelow below.anyBelow below.sumBelow below.tabulate table.hasCard table.inTable table.slotIsNew table.numberGood table.slotsGood table.tableGood markFits wellFormed answeredBy requestRefusal releaseRefusal arbitrate.byRule arbitrate.linesOf arbitrate.numberOf arbitrate.competes arbitrate.competingBelow arbitrate.someLoserFull arbitrate.countAfter arbitrate.granted arbitrate.wonBy arbitrate.arbitrated arbitrate.arbitrateRefusal arbitrate.eventOf settle.someFrom settle.refusal settling.settled settling.stages settling.changes settling.linesAt settling.stage settling.applied settling.outbid after grants times WaitsThrough WaitsAtGrants Q A R line
+unfolding below.allBelow below.anyBelow below.sumBelow below.tabulate below.rowsBelow
+    table.hasCard table.inTable table.slotIsNew table.numberGood table.slotsGood table.tableGood
+    markFits wellFormed answeredBy requestRefusal releaseRefusal
+    arbitrate.byRule arbitrate.linesOf arbitrate.numberOf arbitrate.competes arbitrate.competingBelow arbitrate.someLoserFull
+    arbitrate.losersCounted arbitrate.granted arbitrate.wonBy arbitrate.arbitrated arbitrate.arbitrateRefusal arbitrate.eventOf
+    settle.someFrom settle.refusal
+    settling.settled settling.stages settling.changes settling.linesAt settling.stage settling.applied settling.outbid settling.trail
+    after grants times timesOthers WaitsThrough WaitsAtGrants Q A R
 machine = Unit
 
 -- and this loads the table
 loading : Type 0
-unfolding machine file format.headerOf format.rangesGood format.layoutGood format.nameByteGood format.entryGood format.nameIsNew format.directoryGood format.columnOf format.columnWithin format.valueIsNew format.columnDistinct format.cardsGood format.filledOf format.refusedWith format.refuseUnless format.cardsOf format.columnsFound format.columnsRead format.headerRead format.loadTableOf
+unfolding machine file
+    format.headerOf format.rangesGood format.layoutGood format.nameByteGood format.nameGood format.entryGood format.nameIsNew format.directoryGood
+    format.columnOf format.columnWithin format.valueIsNew format.columnDistinct format.cardsGood format.filledOf
+    format.refusedWith format.refuseUnless format.cardsOf format.columnsFound format.columnsRead format.headerRead format.loadTableOf
 loading = Unit
 
 pub listing-loads : loadOf file .answer ≡ 0
@@ -34,13 +46,19 @@ unfolding loading
 listing-loads = refl
 
 pub listing-replayed : replayed (loadOf file .state) listing ≡ listing
-unfolding loading replayed listing
+unfolding loading replayed listing line
 listing-replayed = refl
 
--- ---- under the fixed rule the card 2 waits while the card 6 is granted twice
+-- ---- the known settlings that name a rule, P8 to P10: playing every row gives the row, and the settlings are the last three of `lines`
+
+pub known-rules : (map played knownRules ≡ knownRules) × (map (λ (r : Ruled). r .settling) knownRules ≡ drop 7 known)
+unfolding machine played settlingIn threeCards knownRules all-ask six-again five-done ruled row known
+known-rules = (refl, refl)
+
+-- ---- under the fixed rule the card 2 waits while the card 6 is granted twice, which breaks each part of demand 3
 
 pub two-cards : ℕ → Table
-two-cards rule = record { k = 3; rule = rule; slots = 0 ∷ 0 ∷ 1 ∷ 0 ∷ 0 ∷ 0 ∷ 3 ∷ below.tabulate 57 (λ _. 0) }
+two-cards rule = record { k = 3; rule = rule; slots = 0 ∷ 0 ∷ 1 ∷ 0 ∷ 0 ∷ 0 ∷ 3 ∷ replicate 57 0 }
 
 pub both-ask : List Event
 both-ask = Q 2 ∷ Q 6 ∷ []
@@ -48,13 +66,33 @@ both-ask = Q 2 ∷ Q 6 ∷ []
 pub six-twice : List Event
 six-twice = A ∷ R 6 ∷ Q 6 ∷ A ∷ []
 
+two-waits : WaitsThrough 2 (after (freshOf (two-cards 0)) both-ask) six-twice
+unfolding machine two-cards both-ask six-twice
+two-waits = (refl, (refl, (refl, (refl, tt))))
+
+two-at-grants : WaitsAtGrants 2 (after (freshOf (two-cards 0)) both-ask) six-twice
+unfolding machine two-cards both-ask six-twice
+two-at-grants = (λ _. refl, (λ _. refl, (λ _. refl, (λ _. refl, tt))))
+
+six-at-grants : WaitsAtGrants 6 (after (freshOf (two-cards 0)) both-ask) six-twice
+unfolding machine two-cards both-ask six-twice
+six-at-grants = (λ _. refl, (λ none. none, (λ none. none, (λ _. refl, tt))))
+
 pub fixed-not-at-most-once : AtMost 1 0 → ⊥
 unfolding machine two-cards both-ask six-twice
-fixed-not-at-most-once claim = omega (arith, claim (two-cards 0) refl both-ask six-twice 2 6 (omega arith) (refl, (refl, (refl, (refl, tt)))))
+fixed-not-at-most-once claim = omega (arith, claim (two-cards 0) refl both-ask six-twice 2 6 (omega arith) two-waits)
+
+pub fixed-not-at-most-others : AtMostOthers 0 → ⊥
+unfolding machine two-cards both-ask six-twice
+fixed-not-at-most-others claim = omega (arith, claim (two-cards 0) refl both-ask six-twice 2 two-waits)
 
 pub fixed-no-fair-share : FairShare 0 → ⊥
 unfolding machine two-cards both-ask six-twice
-fixed-no-fair-share claim = omega (arith, claim (two-cards 0) refl both-ask six-twice 2 (λ _. refl, (λ _. refl, (λ _. refl, (λ _. refl, tt)))))
+fixed-no-fair-share claim = omega (arith, claim (two-cards 0) refl both-ask six-twice 2 two-at-grants)
+
+pub fixed-not-within-one : Within 1 0 → ⊥
+unfolding machine two-cards both-ask six-twice
+fixed-not-within-one claim = omega (arith, claim (two-cards 0) refl both-ask six-twice 6 2 six-at-grants two-at-grants)
 
 -- the same events under the two fair rules: card 2 is granted the second time
 pub robin-takes-turns : grants (after (freshOf (two-cards 1)) both-ask) six-twice ≡ 6 ∷ 2 ∷ []
@@ -64,3 +102,24 @@ robin-takes-turns = refl
 pub arrival-takes-turns : grants (after (freshOf (two-cards 2)) both-ask) six-twice ≡ 6 ∷ 2 ∷ []
 unfolding machine two-cards both-ask six-twice
 arrival-takes-turns = refl
+
+-- ---- the bounds of demand 3 are reached under the two fair rules: while the card 2 waits the card 6 is granted, and no smaller bound will do
+
+pub once-reached : (AtMost 0 1 → ⊥) × (AtMost 0 2 → ⊥)
+unfolding machine two-cards both-ask
+once-reached = (
+  λ claim. omega (arith, claim (two-cards 1) refl both-ask (A ∷ []) 2 6 (omega arith) (refl, tt)),
+  λ claim. omega (arith, claim (two-cards 2) refl both-ask (A ∷ []) 2 6 (omega arith) (refl, tt)),
+)
+
+pub others-reached : (timesOthers 2 (grants (after (freshOf (two-cards 1)) both-ask) (A ∷ [])) ≡ cardsOf (freshOf (two-cards 1)) - 1)
+    × (timesOthers 2 (grants (after (freshOf (two-cards 2)) both-ask) (A ∷ [])) ≡ cardsOf (freshOf (two-cards 2)) - 1)
+unfolding machine two-cards both-ask
+others-reached = (refl, refl)
+
+pub within-reached : (Within 0 1 → ⊥) × (Within 0 2 → ⊥)
+unfolding machine two-cards both-ask
+within-reached = (
+  λ claim. omega (arith, claim (two-cards 1) refl both-ask (A ∷ []) 6 2 (λ _. refl, tt) (λ _. refl, tt)),
+  λ claim. omega (arith, claim (two-cards 2) refl both-ask (A ∷ []) 6 2 (λ _. refl, tt) (λ _. refl, tt)),
+)

@@ -1,25 +1,28 @@
 -- Demand 3 for the round-robin and the arrival rule. Assumes nothing.
-use Prim.Native.Nat.{ℕ, _+_, _/_, _≤_}
+use Prim.Native.Nat.{ℕ, zero, suc, _+_, _≤_}
 use native.Mathlib.Omega.{arith}
 use mathlib.Core.List.{List}
 use mathlib.Core.Logic.{_⊎_, inl, inr, _≢_}
-use mathlib.Core.Path.{_≡_, refl, ap, subst, _∙_}
-use lib.ListN.{length}
+use mathlib.Core.Path.{_≡_, refl, ap}
 use Rattle.cards.proofs.Below.{same-or-not}
 use Rattle.cards.specs.Table.{cardCount}
 use Rattle.cards.specs.declared.Table.{Table}
 use Rattle.promises.proofs.Potentials.{fair-potential}
-use Rattle.promises.proofs.Share.{share}
+use Rattle.promises.proofs.Share.{share, others}
 use Rattle.promises.proofs.Turns.{Potential, bounded, ahead, same-table}
-use Rattle.promises.specs.Fairness.{Fair, AtMost, FairShare, Within}
+use Rattle.promises.specs.Fairness.{AtMost, Within, Fair, FairRules}
 use Rattle.promises.specs.Runs.{Event, after, grants, times, cardsOf}
 use Rattle.rack.proofs.Winner.{FairRule}
 use Rattle.rack.specs.State.{freshOf}
 use Rattle.rack.specs.declared.RackState.{RackState}
 
+-- the events before leave the rule and the cards as they were
 rules-after : (rules : ℕ → Type 0) (t : Table) (rule : ℕ) → t .rule ≡ rule → (before : List Event) → rules rule
     → rules (after (freshOf t) before .table .rule)
 rules-after rules t rule e before r = rw (same-table (freshOf t) before, e) r
+
+same-cards : (t : Table) (before : List Event) → cardsOf (after (freshOf t) before) ≡ cardsOf (freshOf t)
+same-cards t before = ap (λ (u : Table). cardCount (u .slots) 64) (same-table (freshOf t) before)
 
 -- what a potential of at most n gives
 module _ (rules : ℕ → Type 0) (n : ℕ) (potential : (a b : ℕ) → a ≢ b → Potential rules n a b) (rule : ℕ) (r : rules rule) where
@@ -37,25 +40,34 @@ module _ (rules : ℕ → Type 0) (n : ℕ) (potential : (a b : ℕ) → a ≢ b
       go (inl p) = rw p (omega arith)
       go (inr d) = ahead two one d (potential two one d) during s (rules-after rules t rule e before r) h₂
 
-fair-share : (rule : ℕ) → FairRule rule → FairShare rule
-fair-share rule r t e before during card h =
-    subst (λ (N : ℕ). length (grants s during) / N ≤ times card (grants s during))
-    (ap (λ (u : Table). cardCount (u .slots) 64) (same-table (freshOf t) before))
-    (share card during s (rules-after FairRule t rule e before r) h)
-  where
-    s : RackState
-    s = after (freshOf t) before
+-- each field from what its law says, by arithmetic
+module _ (rule : ℕ) (r : FairRule rule) where
+  once : AtMost 1 rule
+  once = at-most FairRule 1 fair-potential rule r
 
-fair : (rule : ℕ) → FairRule rule → Fair rule
-fair rule r =
-    record {
-      at-most-once = at-most FairRule 1 fair-potential rule r;
-      fair-share = fair-share rule r;
-      within-one = within FairRule 1 fair-potential rule r;
-    }
+  fair : Fair rule
+  fair =
+      record {
+        at-most-once = λ t e before during waiter other d h. omega (arith, once t e before during waiter other d h);
+        at-most-others = λ t e before during waiter h.
+            omega (
+              arith,
+              same-cards t before,
+              others waiter during (after (freshOf t) before) (λ other d. once t e before during waiter other d h) h,
+            );
+        fair-share = λ t e before during card h.
+            omega (arith, rw same-cards at (share card during (after (freshOf t) before) (rules-after FairRule t rule e before r) h));
+        within-one = λ t e before during one two h₁ h₂. omega (arith, within FairRule 1 fair-potential rule r t e before during one two h₁ h₂);
+      }
+
+pub fair-rules : FairRules
+fair-rules zero low high = absurd (omega arith)
+fair-rules (suc zero) low high = fair 1 (inl refl)
+fair-rules (suc (suc zero)) low high = fair 2 (inr refl)
+fair-rules (suc (suc (suc rule))) low high = absurd (omega arith)
 
 pub round-robin-fair : Fair 1
-round-robin-fair = fair 1 (inl refl)
+round-robin-fair = fair-rules 1 (omega arith) (omega arith)
 
 pub arrival-fair : Fair 2
-arrival-fair = fair 2 (inr refl)
+arrival-fair = fair-rules 2 (omega arith) (omega arith)

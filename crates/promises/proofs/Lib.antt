@@ -1,3 +1,4 @@
+-- The demands proved: fairness (Sums to Fairness), states, the round trip of a table, the examples, and that every contract admits one result.
 pub mod Sums
 pub mod Turns
 pub mod Potentials
@@ -6,3 +7,4 @@ pub mod Fairness
 pub mod States
 pub mod RoundTrip
 pub mod Examples
+pub mod Determined

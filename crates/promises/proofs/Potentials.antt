@@ -1,19 +1,18 @@
--- The potential of the round-robin and the arrival rule: at most one.
--- Assumes nothing.
-use Prim.Native.Nat.{ℕ, zero, suc, _^_, _≤_}
+-- The potential of the round-robin and the arrival rule: at most one. Assumes nothing.
+use Prim.Native.Nat.{ℕ, _^_, _≤_}
 use native.Mathlib.Omega.{arith}
-use mathlib.Core.Path.{_≡_, refl, sym}
-use mathlib.Core.Logic.{_≢_}
 use mathlib.Core.Bool.{Bool, true, false, cond, _&&_}
-use borrow.Author.Tests.{ltb-true, lt-ltb}
+use mathlib.Core.Logic.{_≢_}
+use mathlib.Core.Path.{_≡_, refl, sym}
 use lib.Dec.{ltb}
-use Rattle.rack.specs.declared.RackState.{RackState}
-use Rattle.cards.proofs.Below.{and-left, and-right}
-use Rattle.rack.specs.State.{waits}
-use Rattle.rack.specs.Arbitrate.{numberOf, granted}
-use Rattle.rack.proofs.Winner.{FairRule, Won}
-use Rattle.rack.proofs.Steps.{Quiet, no-grant-quiet, Behind, quiet-behind, loser-waits, winner-behind, behind-not-winner, behind-stays}
+use borrow.Author.Tests.{ltb-true, lt-ltb}
 use Rattle.promises.proofs.Turns.{Potential}
+use Rattle.rack.proofs.Steps.{no-grant-quiet, Behind, quiet-behind, loser-waits, winner-behind, behind-not-winner, behind-stays}
+use Rattle.rack.proofs.Tests.{and-left, and-right}
+use Rattle.rack.proofs.Winner.{FairRule}
+use Rattle.rack.specs.Arbitrate.{numberOf, granted}
+use Rattle.rack.specs.State.{waits}
+use Rattle.rack.specs.declared.RackState.{RackState}
 
 -- ---- rules 1 and 2: none where a waits and b is behind it, else one
 

@@ -1,27 +1,28 @@
--- The grants of a run, summed over the cards of the table: the share of a card that waits at every grant. Assumes nothing.
-use Prim.Native.Nat.{ℕ, zero, suc, _+_, _*_, _/_, _≤_, _<_}
+-- The grants of a run, summed over the cards of the table: the share of a card that waits at every grant, and the grants that go to others while a
+-- card waits. Assumes nothing.
+use Prim.Native.Nat.{ℕ, zero, suc, _+_, _-_, _*_, _/_, _≤_, _<_}
 use native.Mathlib.Nat.{not-suc-le-zero, mul-zero, zero-div, div-lt-iff-lt-mul}
 use native.Mathlib.Omega.{arith}
-use mathlib.Core.Path.{_≡_, refl, sym, ap, _∙_, subst}
-use mathlib.Core.Logic.{_⊎_, inl, inr, _≢_}
 use mathlib.Core.Bool.{Bool, true, false, cond, true≢false}
 use mathlib.Core.List.{List, [], _∷_, _++_}
-use borrow.Author.Tests.{ne-eqb, lt-ltb}
+use mathlib.Core.Logic.{_⊎_, inl, inr, _≢_}
+use mathlib.Core.Path.{_≡_, refl, sym, ap, _∙_, subst}
 use lib.Dec.{eqb}
 use lib.ListN.{length}
-use Rattle.rack.specs.declared.RackState.{RackState}
+use borrow.Author.Tests.{eq-eqb, ne-eqb, lt-ltb}
 use Rattle.cards.proofs.Below.{same-or-not}
 use Rattle.cards.specs.Below.{sumBelow}
 use Rattle.cards.specs.Table.{hasCard}
 use Rattle.cards.specs.declared.Table.{Table}
-use Rattle.rack.specs.State.{waits, isCard}
-use Rattle.rack.proofs.Formed.{waiting-below, waiting-card}
-use Rattle.rack.proofs.Winner.{FairRule, Won}
-use Rattle.rack.proofs.Seen.{Seen, quiet, grant}
-use Rattle.promises.specs.Runs.{Event, outcomeOf, next, winner, isGrant, grants, times, cardsOf, WaitsAtGrants}
-use Rattle.promises.proofs.Sums.{sum-zero, sum-add, sum-one, sum-scale, sum-lt}
-use Rattle.promises.proofs.Turns.{seen-event, same-table-after, same-rule-after, ahead}
 use Rattle.promises.proofs.Potentials.{fair-potential}
+use Rattle.promises.proofs.Sums.{sum-zero, sum-add, sum-one, sum-scale, sum-le, sum-lt}
+use Rattle.promises.proofs.Turns.{seen-event, same-table-after, ahead}
+use Rattle.promises.specs.Runs.{Event, outcomeOf, next, winner, isGrant, grants, times, timesOthers, cardsOf, WaitsThrough, WaitsAtGrants}
+use Rattle.rack.proofs.Formed.{waiting-below, waiting-card}
+use Rattle.rack.proofs.Seen.{Seen, quiet, grant}
+use Rattle.rack.proofs.Winner.{FairRule}
+use Rattle.rack.specs.State.{waits, isCard}
+use Rattle.rack.specs.declared.RackState.{RackState}
 
 -- ---- a list of cards
 
@@ -42,8 +43,19 @@ times-other none n f = refl
 times-other {test = test} (more {x} h t all) n f =
     rw (ne-eqb x n (λ p. true≢false (sym t ∙ ap test p ∙ f)), times-other all n f)
 
--- ---- the share
+-- a number of the list is a or another
+times-others : (a : ℕ) (l : List ℕ) → timesOthers a l + times a l ≡ length l
+unfolding times timesOthers
+times-others a [] = refl
+times-others a (x ∷ l) = go (eqb x a) (times-others a l)
+  where
+    go : (t : Bool) → timesOthers a l + times a l ≡ length l → (cond t 0 1 + timesOthers a l) + (cond t 1 0 + times a l) ≡ length (x ∷ l)
+    go true ih = omega arith
+    go false ih = omega arith
 
+-- ---- the grants of a run
+
+-- only cards are granted
 cards-only : (es : List Event) (s : RackState) → All 64 (isCard s) (grants s es)
 unfolding grants
 cards-only [] s = none
@@ -51,19 +63,20 @@ cards-only (e ∷ es) s =
     go (seen-event s e)
     (subst (λ (t : Table). All 64 (hasCard (t .slots)) (grants (next s e) es)) (same-table-after s e) (cards-only es (next s e)))
   where
-    go : Seen s (outcomeOf s e) → All 64 (isCard s) (grants (next s e) es) → All 64 (isCard s) (cond (isGrant s e) (winner s e ∷ []) [] ++ grants (next s e) es)
+    go : Seen s (outcomeOf s e) → All 64 (isCard s) (grants (next s e) es)
+        → All 64 (isCard s) (cond (isGrant s e) (winner s e ∷ []) [] ++ grants (next s e) es)
     go (quiet z g) ih = rw z ih
     go (grant z free room st won) ih = rw (lt-ltb 0 (winner s e) (won .positive)) (more (won .below) (won .card) ih)
 
 module _ (a : ℕ) where
   -- a card that waits at every grant is in the table, if there is a grant
-  waiter-card : (es : List Event) (s : RackState) → FairRule (s .table .rule) → WaitsAtGrants a s es → (grants s es ≡ []) ⊎ ((a < 64) × (isCard s a ≡ true))
+  waiter-card : (es : List Event) (s : RackState) → WaitsAtGrants a s es → (grants s es ≡ []) ⊎ ((a < 64) × (isCard s a ≡ true))
   unfolding grants WaitsAtGrants
-  waiter-card [] s r h = inl refl
-  waiter-card (e ∷ es) s r h =
+  waiter-card [] s h = inl refl
+  waiter-card (e ∷ es) s h =
       go (seen-event s e)
       (subst (λ (t : Table). (grants (next s e) es ≡ []) ⊎ ((a < 64) × (hasCard (t .slots) a ≡ true))) (same-table-after s e)
-      (waiter-card es (next s e) (rw (same-rule-after s e) r) (h .1)))
+      (waiter-card es (next s e) (h .1)))
     where
       go : Seen s (outcomeOf s e) → (grants (next s e) es ≡ []) ⊎ ((a < 64) × (isCard s a ≡ true))
           → (cond (isGrant s e) (winner s e ∷ []) [] ++ grants (next s e) es ≡ []) ⊎ ((a < 64) × (isCard s a ≡ true))
@@ -72,12 +85,15 @@ module _ (a : ℕ) where
           let t : waits s a ≡ true = h .0 (lt-ltb 0 (winner s e) (won .positive)) in
           inr (waiting-below s (won .formed) a t, waiting-card s (won .formed) a t)
 
+  -- ---- the share
+
   positive : (x y N : ℕ) → x < y * N → 0 < N
   positive x y zero h = absurd (not-suc-le-zero (rw (mul-zero y) at h))
   positive x y (suc N) h = omega arith
 
-  pub share : (es : List Event) (s : RackState) → FairRule (s .table .rule) → WaitsAtGrants a s es → length (grants s es) / cardsOf s ≤ times a (grants s es)
-  share es s r h = go (waiter-card es s r h)
+  pub share : (es : List Event) (s : RackState) → FairRule (s .table .rule) → WaitsAtGrants a s es
+      → length (grants s es) / cardsOf s ≤ times a (grants s es)
+  share es s r h = go (waiter-card es s h)
     where
       l : List ℕ
       l = grants s es
@@ -93,8 +109,49 @@ module _ (a : ℕ) where
       total : (a < 64) × (isCard s a ≡ true) → length l < (c + 1) * cardsOf s
       total k =
           rw (← sum-times (cards-only es s), ← sum-scale 64 (c + 1) (isCard s))
-          (sum-lt 64 a (λ n. times n l) (λ n. cond (isCard s n) (c + 1) 0) (λ n _. within n (isCard s n) refl (same-or-not a n)) (rw (k .1) (omega arith)) (k .0))
+          (sum-lt 64 a (λ n. times n l) (λ n. cond (isCard s n) (c + 1) 0)
+          (λ n _. within n (isCard s n) refl (same-or-not a n)) (rw (k .1) (omega arith)) (k .0))
 
       go : (grants s es ≡ []) ⊎ ((a < 64) × (isCard s a ≡ true)) → length l / cardsOf s ≤ times a l
       go (inl p) = rw (p, zero-div (cardsOf s)) (omega arith)
       go (inr k) = omega (arith, div-lt-iff-lt-mul (positive (length l) (c + 1) (cardsOf s) (total k)) .1 (total k))
+
+  -- ---- the others
+
+  waits-at-grants : (es : List Event) (s : RackState) → WaitsThrough a s es → WaitsAtGrants a s es
+  unfolding WaitsThrough WaitsAtGrants
+  waits-at-grants [] s h = tt
+  waits-at-grants (e ∷ es) s h = (λ _. h .0, waits-at-grants es (next s e) (h .1))
+
+  -- where each other card is granted at most once, the others are granted less often than there are cards
+  pub others : (es : List Event) (s : RackState) → ((b : ℕ) → a ≢ b → times b (grants s es) ≤ 1) → WaitsThrough a s es
+      → timesOthers a (grants s es) ≤ cardsOf s - 1
+  others es s once h = go (waiter-card es s (waits-at-grants es s h))
+    where
+      l : List ℕ
+      l = grants s es
+
+      c : ℕ
+      c = times a l
+
+      within : isCard s a ≡ true → (n : ℕ) (t : Bool) → isCard s n ≡ t → (a ≡ n) ⊎ (a ≢ n)
+          → times n l + cond (eqb a n) 1 0 ≤ cond (eqb a n) c 0 + cond t 1 0
+      within k n true e (inl p) = rw (← p, eq-eqb a a refl) (omega arith)
+      within k n true e (inr q) = rw (ne-eqb a n q) (omega (arith, once n q))
+      within k n false e (inl p) = absurd (true≢false (sym k ∙ ap (isCard s) p ∙ e))
+      within k n false e (inr q) = rw (ne-eqb a n q, times-other (cards-only es s) n e) (omega arith)
+
+      go : (grants s es ≡ []) ⊎ ((a < 64) × (isCard s a ≡ true)) → timesOthers a l ≤ cardsOf s - 1
+      go (inl p) = omega (arith, times-others a l, ap length p)
+      go (inr k) =
+          let spent : sumBelow 64 (λ n. cond (eqb a n) c 0) ≡ c = sum-scale 64 c (eqb a) ∙ rw (sum-one 64 a (k .0)) (omega arith) in
+          omega (
+            arith,
+            times-others a l,
+            sum-times (cards-only es s),
+            sum-one 64 a (k .0),
+            sum-add 64 (λ n. times n l) (λ n. cond (eqb a n) 1 0),
+            sum-add 64 (λ n. cond (eqb a n) c 0) (λ n. cond (isCard s n) 1 0),
+            sum-le 64 (λ n. times n l + cond (eqb a n) 1 0) (λ n. cond (eqb a n) c 0 + cond (isCard s n) 1 0)
+                (λ n _. within (k .1) n (isCard s n) refl (same-or-not a n)),
+          )

@@ -1,16 +1,14 @@
 -- Demand 1 for states and events. Assumes nothing.
 use Prim.Native.Nat.{ℕ}
-use native.Mathlib.Omega.{arith}
 use mathlib.Core.Bool.{Bool, true, false, cond}
 use mathlib.Core.List.{List}
 use mathlib.Core.Logic.{_⊎_, inl, inr, _≢_}
 use mathlib.Core.Path.{_≡_, refl, ap}
 use lib.Dec.{eqb}
-use Rattle.cards.proofs.LoadedGood.{loaded-good, refused-zero}
-use Rattle.cards.specs.Format.{refusedWith}
+use Rattle.cardfile.proofs.LoadedGood.{loaded-good, refused-zero}
+use Rattle.cardfile.specs.Format.{refusedWith}
 use Rattle.cards.specs.Table.{tableGood}
 use Rattle.lines.specs.declared.Settled.{Settled}
-use Rattle.promises.specs.Runs.{Event, outcomeOf}
 use Rattle.promises.specs.States.{StaysWellFormed, LoadsWellFormed, RefusedEventKeeps, IllFormedRefused, OnlyFullRefuses}
 use Rattle.rack.proofs.Formed.{formed-of, fresh-well-formed}
 use Rattle.rack.proofs.Kept.{stays-well-formed}
@@ -55,17 +53,17 @@ refused-event-keeps s e =
     (either (eqb (e .letter) 82) (kept-by s _ _ (λ some. absurd (some refl)))
     (λ _. refl)))
 
+-- what the letter selects, for the outcome as for its number
+by-letter : (s : RackState) (q a r : Bool)
+    → cond q (answered s 17) (cond a (answered s 17) (cond r (answered s 17) (answered s 18))) ≡ answered s (cond q 17 (cond a 17 (cond r 17 18)))
+by-letter s true a r = refl
+by-letter s false true r = refl
+by-letter s false false true = refl
+by-letter s false false false = refl
+
 pub ill-formed-refused : IllFormedRefused
 unfolding eventOf answeredBy requestRefusal releaseRefusal arbitrateRefusal
-ill-formed-refused s e ill = rw ill (by-letter (eqb (e .letter) 81) (eqb (e .letter) 65) (eqb (e .letter) 82))
-  where
-    by-letter : (q a r : Bool)
-        → (cond q (answered s 17) (cond a (answered s 17) (cond r (answered s 17) (answered s 18))) .answer ≡ 17)
-        ⊎ (cond q (answered s 17) (cond a (answered s 17) (cond r (answered s 17) (answered s 18))) .answer ≡ 18)
-    by-letter true a r = inl refl
-    by-letter false true r = inl refl
-    by-letter false false true = inl refl
-    by-letter false false false = inr refl
+ill-formed-refused s e ill = rw ill (by-letter s (eqb (e .letter) 81) (eqb (e .letter) 65) (eqb (e .letter) 82))
 
 -- ---- an arbitration
 

@@ -1,24 +1,24 @@
 -- Two cards through a run of events, under any rule. A potential is a number of the state that each grant to b lowers, that each grant to a raises by
 -- at most one, and that nothing else raises: it bounds the grants to b while a waits, and how far b gets ahead where a waits at every grant.
 -- Assumes nothing.
-use Prim.Native.Nat.{ℕ, zero, suc, _+_, _≤_, _<_}
+use Prim.Native.Nat.{ℕ, _+_, _≤_, _<_}
 use native.Mathlib.Nat.{zero-add}
 use native.Mathlib.Omega.{arith}
-use mathlib.Core.Path.{_≡_, refl, sym, ap, _∙_, subst}
-use mathlib.Core.Logic.{_⊎_, inl, inr, _≢_}
 use mathlib.Core.Bool.{Bool, true, false, cond, true≢false}
 use mathlib.Core.List.{List, [], _∷_, _++_}
-use borrow.Author.Tests.{eq-eqb, ne-eqb, lt-ltb}
+use mathlib.Core.Logic.{_⊎_, inl, inr, _≢_}
+use mathlib.Core.Path.{_≡_, refl, sym, ap, _∙_, subst}
 use lib.Dec.{ltb}
-use Rattle.rack.specs.declared.RackState.{RackState}
+use borrow.Author.Tests.{eq-eqb, ne-eqb, lt-ltb}
 use Rattle.cards.proofs.Below.{same-or-not}
 use Rattle.cards.specs.declared.Table.{Table}
+use Rattle.promises.specs.Runs.{Event, outcomeOf, next, winner, isGrant, grants, times, after, WaitsThrough, WaitsAtGrants}
+use Rattle.rack.proofs.Seen.{NoGrant, Seen, seen, quiet, grant}
+use Rattle.rack.proofs.Steps.{no-grant-quiet, winner-stops}
+use Rattle.rack.proofs.Winner.{Won}
 use Rattle.rack.specs.Arbitrate.{granted}
 use Rattle.rack.specs.State.{waits, isClosed}
-use Rattle.rack.proofs.Winner.{Won}
-use Rattle.rack.proofs.Seen.{NoGrant, Seen, seen, quiet, grant}
-use Rattle.rack.proofs.Steps.{Quiet, no-grant-quiet, winner-stops}
-use Rattle.promises.specs.Runs.{Event, outcomeOf, next, winner, isGrant, grants, times, after, WaitsThrough, WaitsAtGrants}
+use Rattle.rack.specs.declared.RackState.{RackState}
 
 abbrev pub seen-event : (s : RackState) (e : Event) → Seen s (outcomeOf s e)
 seen-event s e = seen s (e .letter) (e .number)
@@ -77,7 +77,8 @@ pub record Potential (rules : ℕ → Type 0) (n a b : ℕ) : Type 0 where
   pub at-quiet : {s x : RackState} {i : ℕ} → rules (s .table .rule) → NoGrant s x i → left x ≤ left s
   pub to-waiter : (s : RackState) → rules (s .table .rule) → isClosed (s .bus) ≡ false → Won s a → left (granted s a) ≤ left s + 1
   pub to-other : (s : RackState) → rules (s .table .rule) → isClosed (s .bus) ≡ false → Won s b → waits s a ≡ true → left (granted s b) + 1 ≤ left s
-  pub to-third : (s : RackState) (w : ℕ) → rules (s .table .rule) → isClosed (s .bus) ≡ false → Won s w → w ≢ a → w ≢ b → waits s a ≡ true → left (granted s w) ≤ left s
+  pub to-third : (s : RackState) (w : ℕ) → rules (s .table .rule) → isClosed (s .bus) ≡ false → Won s w → w ≢ a → w ≢ b → waits s a ≡ true
+      → left (granted s w) ≤ left s
 
 module _ {rules : ℕ → Type 0} {n : ℕ} (a b : ℕ) (a≢b : a ≢ b) (potential : Potential rules n a b) where
   abbrev P : RackState → ℕ
@@ -90,7 +91,8 @@ module _ {rules : ℕ → Type 0} {n : ℕ} (a b : ℕ) (a≢b : a ≢ b) (poten
       w : ℕ
       w = winner s e
 
-      won-by : isClosed (s .bus) ≡ false → next s e ≡ granted s w → Won s w → (w ≡ a) ⊎ (w ≢ a) → (w ≡ b) ⊎ (w ≢ b) → hit b s e + P (next s e) ≤ P s + hit a s e
+      won-by : isClosed (s .bus) ≡ false → next s e ≡ granted s w → Won s w → (w ≡ a) ⊎ (w ≢ a) → (w ≡ b) ⊎ (w ≢ b)
+          → hit b s e + P (next s e) ≤ P s + hit a s e
       won-by free st won (inl p) _ =
           rw (other-hit b s e (λ q. a≢b (sym p ∙ q)), subst (λ (x : ℕ). hit x s e ≡ 1) p (is-hit s e (won .positive)), st, p)
           (omega (arith, potential .to-waiter s r free (subst (Won s) p won)))

@@ -6,10 +6,10 @@ use mathlib.Core.Logic.{_⊎_, _≢_}
 use mathlib.Core.Path.{_≡_}
 use Rattle.cards.specs.Below.{anyBelow}
 use Rattle.promises.specs.Runs.{Event, outcomeOf, next}
-use Rattle.rack.specs.Arbitrate.{arbitrateOf}
+use Rattle.rack.specs.Arbitrate.{arbitrateOf, byLetter}
 use Rattle.rack.specs.Events.{answered}
 use Rattle.rack.specs.Files.{loadOf}
-use Rattle.rack.specs.State.{waits, isClosed, wellFormed, freshOf}
+use Rattle.rack.specs.State.{waits, isClosed, wellFormed}
 use Rattle.rack.specs.declared.RackState.{RackState}
 
 -- every event keeps a well-formed state well formed
@@ -24,9 +24,9 @@ LoadsWellFormed = (file : List ℕ) → loadOf file .answer ≡ 0 → wellFormed
 abbrev pub RefusedEventKeeps : Type 0
 RefusedEventKeeps = (s : RackState) (e : Event) → outcomeOf s e .answer ≢ 0 → outcomeOf s e ≡ answered s (outcomeOf s e .answer)
 
--- a state that is not well formed gets 17 from each of the three events
+-- a state that is not well formed is returned as it was given, with 17 to the letters Q, A and R and 18 to any other
 abbrev pub IllFormedRefused : Type 0
-IllFormedRefused = (s : RackState) (e : Event) → wellFormed s ≡ false → (outcomeOf s e .answer ≡ 17) ⊎ (outcomeOf s e .answer ≡ 18)
+IllFormedRefused = (s : RackState) (e : Event) → wellFormed s ≡ false → outcomeOf s e ≡ answered s (byLetter (e .letter) 17 17 17 18)
 
 -- in a well-formed state with the bus free and a card waiting, an arbitration is refused only by 16
 abbrev pub OnlyFullRefuses : Type 0

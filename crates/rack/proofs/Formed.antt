@@ -1,20 +1,17 @@
 -- A well-formed state, part by part, and that a freshly loaded good table is one. Assumes nothing.
 use Prim.Native.Nat.{ℕ, _^_, _≤_, _<_}
-use mathlib.Core.Bool.{Bool, true, false, not, _&&_, _||_, false≢true}
-use mathlib.Core.List.{List}
+use mathlib.Core.Bool.{Bool, true, false, _&&_, false≢true}
 use mathlib.Core.Logic.{_⊎_, inl, inr, _≢_}
 use mathlib.Core.Path.{_≡_, refl, sym, _∙_}
-use native.Mathlib.Omega.{arith}
-use borrow.Author.Tests.{ltb-true, lt-ltb, eqb-true, eqb-false, eq-eqb, ne-eqb}
 use lib.Dec.{eqb}
-use lib.ListN.{length, getD, replicate, length-replicate, List·getD-eq-default}
+use lib.ListN.{length, length-replicate, List·getD-eq-default}
 use lib.Pow.{pow-pos}
-use Rattle.cards.proofs.Below.{and-left, and-right, implied, otherwise, le-or-lt, all-at, all-each}
+use borrow.Author.Tests.{ltb-true, lt-ltb, eqb-true, eqb-false, eq-eqb, ne-eqb}
+use Rattle.cards.proofs.Below.{implied, le-or-lt, all-at, all-each}
 use Rattle.cards.proofs.TableKnown.{table-known, card-range}
-use Rattle.cards.specs.Below.{allBelow}
 use Rattle.cards.specs.Table.{tableGood}
 use Rattle.cards.specs.declared.Table.{Table}
-use Rattle.rack.proofs.Tests.{both, if-so, or-so, replicate-default}
+use Rattle.rack.proofs.Tests.{and-left, and-right, otherwise, both, if-so, or-so, replicate-default}
 use Rattle.rack.specs.State.{waits, countOf, isCard, markFits, markOk, sizedOk, lastOk, busOk, wellFormed, freshOf}
 use Rattle.rack.specs.declared.RackState.{RackState}
 
@@ -38,7 +35,8 @@ mark-of s n e =
     record {
       in-table = implied (waits s n) (isCard s n) (search (e, and-left, and-right));
       small = ltb-true (countOf s n) (2 ^ s .table .k) (search (e, and-left, and-right));
-      counted = λ h. parts (otherwise (eqb (countOf s n) 0) (waits s n && eqb (s .table .rule) 2) (search (e, and-left, and-right)) (ne-eqb (countOf s n) 0 h));
+      counted = λ h.
+          parts (otherwise (eqb (countOf s n) 0) (waits s n && eqb (s .table .rule) 2) (search (e, and-left, and-right)) (ne-eqb (countOf s n) 0 h));
     }
   where
     parts : (waits s n && eqb (s .table .rule) 2) ≡ true → (waits s n ≡ true) × (s .table .rule ≡ 2)

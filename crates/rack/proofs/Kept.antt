@@ -1,29 +1,29 @@
 -- Every event keeps a state well formed. Assumes nothing.
 use Prim.Native.Nat.{ℕ, _+_, _^_, _<_}
 use native.Mathlib.Omega.{arith}
-use mathlib.Core.Bool.{Bool, true, false}
+use mathlib.Core.Bool.{Bool, true, false, true≢false}
 use mathlib.Core.Logic.{_⊎_, inl, inr, _≢_}
 use mathlib.Core.Path.{_≡_, refl, sym, _∙_}
-use borrow.Author.Tests.{lt-ltb, eq-eqb, ne-eqb}
 use lib.Dec.{ltb, eqb}
 use lib.ListN.{length-set}
 use lib.Pow.{pow-pos}
 use lib.Seq.{getD-set-other}
-use Rattle.cards.proofs.Below.{same-or-not, tabulate-length}
+use borrow.Author.Tests.{lt-ltb, eq-eqb}
+use Rattle.cards.proofs.Below.{same-or-not}
 use Rattle.cards.proofs.TableKnown.{table-card}
 use Rattle.cards.specs.Table.{inTable}
 use Rattle.rack.proofs.Formed.{Mark, Formed, formed-of, of-formed, same-mark}
-use Rattle.rack.proofs.Laws.{granted-count, not-full}
+use Rattle.rack.proofs.Laws.{winner-count, loser-count, other-count, counts-length, not-full}
 use Rattle.rack.proofs.Seen.{NoGrant, refused, full, asked, handed, Seen, seen, quiet, grant}
 use Rattle.rack.proofs.Tests.{both, or-so, set-default}
 use Rattle.rack.proofs.Winner.{Won}
-use Rattle.rack.specs.Arbitrate.{someLoserFull, countAfter, granted, eventOf}
+use Rattle.rack.specs.Arbitrate.{someLoserFull, granted, eventOf}
 use Rattle.rack.specs.Events.{requested, released}
 use Rattle.rack.specs.State.{waits, countOf, isCard, wellFormed}
 use Rattle.rack.specs.declared.RackState.{RackState}
 
 -- a request by a card c
-requested-formed : (s : RackState) (c : ℕ) → inTable (s .table) c ≡ true → Formed s → Formed (requested s c)
+requested-formed : (s : RackState) (c : ℕ) → inTable (s .table .slots) c ≡ true → Formed s → Formed (requested s c)
 requested-formed s c t f =
     record {
       table-good = f .table-good;
@@ -37,7 +37,7 @@ requested-formed s c t f =
     go : (n : ℕ) → Mark s n → (n ≡ c) ⊎ (n ≢ c) → Mark (requested s c) n
     go n mark (inl p) =
         record {
-          in-table = λ _. rw p (table-card (s .table) c t);
+          in-table = λ _. rw p (table-card (s .table .slots) c t);
           small = rw (p, set-default (s .counts) c 0) (pow-pos (s .table .k));
           counted = λ h. absurd (h (rw (p, set-default (s .counts) c 0)));
         }
@@ -57,7 +57,7 @@ released-formed s f =
 
 -- a grant to w
 module _ (s : RackState) (w : ℕ) (room : someLoserFull s w ≡ false) (won : Won s w) where
-  winner-known : inTable (s .table) w ≡ true
+  winner-known : inTable (s .table .slots) w ≡ true
   unfolding inTable
   winner-known = both (ltb w 64) (isCard s w) (lt-ltb w 64 (won .below)) (won .card)
 
@@ -67,16 +67,15 @@ module _ (s : RackState) (w : ℕ) (room : someLoserFull s w ≡ false) (won : W
     more : waits s n ≡ true → s .table .rule ≡ 2 → countOf s n + 1 < 2 ^ s .table .k → countOf (granted s w) n ≡ countOf s n + 1 → Grown n
 
   grown : (n : ℕ) → n < 64 → n ≢ w → Grown n
-  unfolding countAfter
   grown n l d = go (waits s n) (same-or-not (s .table .rule) 2) refl
     where
       go : (t : Bool) → (s .table .rule ≡ 2) ⊎ (s .table .rule ≢ 2) → waits s n ≡ t → Grown n
-      go true (inl e) t = more t e (omega (arith, not-full s w n room l d e t)) (rw (granted-count s w n l, ne-eqb n w d, t, e))
-      go true (inr m) t = same (rw (granted-count s w n l, ne-eqb n w d, t, ne-eqb (s .table .rule) 2 m))
-      go false _ t = same (rw (granted-count s w n l, ne-eqb n w d, t))
+      go true (inl e) t = more t e (omega (arith, not-full s w n room l d e t)) (rw t at (loser-count s w n l d e))
+      go false (inl e) t = same (omega (arith, rw t at (loser-count s w n l d e)))
+      go _ (inr m) t = same (other-count s w n d m)
 
   mark-after : (n : ℕ) → n < 64 → Mark (granted s w) n
-  unfolding granted countAfter
+  unfolding granted
   mark-after n l = go (won .formed .marks n l) (same-or-not n w)
     where
       loser : Mark s n → waits (granted s w) n ≡ waits s n → Grown n → Mark (granted s w) n
@@ -98,7 +97,7 @@ module _ (s : RackState) (w : ℕ) (room : someLoserFull s w ≡ false) (won : W
           }
         where
           zero-count : countOf (granted s w) n ≡ 0
-          zero-count = rw (granted-count s w n l, eq-eqb n w p)
+          zero-count = rw p (winner-count s w (won .below))
 
   granted-formed : Formed (granted s w)
   unfolding granted
@@ -106,10 +105,10 @@ module _ (s : RackState) (w : ℕ) (room : someLoserFull s w ≡ false) (won : W
       record {
         table-good = won .formed .table-good;
         waiting-size = length-set (s .waiting) w false ∙ won .formed .waiting-size;
-        counts-size = tabulate-length 64 (countAfter s w);
+        counts-size = counts-length s w (won .formed .counts-size);
         marks = mark-after;
-        last-known = or-so (eqb w 0) (inTable (s .table) w) (λ _. winner-known);
-        bus-known = both (eqb w w) (inTable (s .table) w) (eq-eqb w w refl) winner-known;
+        last-known = or-so (eqb w 0) (inTable (s .table .slots) w) (λ _. winner-known);
+        bus-known = both (eqb w w) (inTable (s .table .slots) w) (eq-eqb w w refl) winner-known;
       }
 
 formed-next : (s : RackState) (letter number : ℕ) → Formed s → Formed (eventOf s letter number .state)
@@ -128,3 +127,18 @@ formed-next s letter number f = go (seen s letter number)
 -- every event keeps a well-formed state well formed
 pub stays-well-formed : (s : RackState) (letter number : ℕ) → wellFormed s ≡ true → wellFormed (eventOf s letter number .state) ≡ true
 stays-well-formed s letter number ok = of-formed (eventOf s letter number .state) (formed-next s letter number (formed-of s ok))
+
+-- and an event leaves a state that is not well formed as it is
+pub same-form : (s : RackState) (letter number : ℕ) → wellFormed (eventOf s letter number .state) ≡ wellFormed s
+same-form s letter number = go (wellFormed s) refl (seen s letter number)
+  where
+    unmoved : {x : RackState} {n : ℕ} → wellFormed s ≡ false → NoGrant s x n → wellFormed x ≡ wellFormed s
+    unmoved ill (refused i j) = refl
+    unmoved ill (full w ok h) = refl
+    unmoved ill (asked c ok t w) = absurd (true≢false (sym ok ∙ ill))
+    unmoved ill (handed c ok t h) = absurd (true≢false (sym ok ∙ ill))
+
+    go : (b : Bool) → wellFormed s ≡ b → Seen s (eventOf s letter number) → wellFormed (eventOf s letter number .state) ≡ wellFormed s
+    go true e _ = stays-well-formed s letter number e ∙ sym e
+    go false e (quiet z g) = unmoved e g
+    go false e (grant z free room st won) = absurd (true≢false (sym (of-formed s (won .formed)) ∙ e))

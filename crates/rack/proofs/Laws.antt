@@ -1,20 +1,24 @@
 -- Laws of the arbitration's definitions, which the proofs of its functions cite. Assumes nothing.
-use Prim.Native.Nat.{ℕ, zero, suc, _-_, _*_, _^_, _≤_, _<_}
+use Prim.Native.Nat.{ℕ, zero, suc, _+_, _-_, _*_, _^_, _≤_, _<_}
 use native.Mathlib.Nat.{mul-le-mul}
 use native.Mathlib.Omega.{arith}
-use mathlib.Core.Bool.{Bool, true, false, cond, _&&_}
-use mathlib.Core.List.{List, [], _∷_}
-use mathlib.Core.Path.{_≡_, refl}
-use borrow.Author.Tests.{leb-false, ne-eqb, eqb-true}
+use mathlib.Core.Bool.{Bool, true, false, cond}
+use mathlib.Core.List.{[], _∷_}
+use mathlib.Core.Logic.{_⊎_, inl, inr, _≢_}
+use mathlib.Core.Path.{_≡_, refl, sym, _∙_}
 use lib.Dec.{eqb}
-use lib.ListN.{length, length-append}
+use lib.ListN.{length, getD, set, length-append, length-set}
 use lib.Pow.{pow-mono}
-use Rattle.cards.proofs.Below.{and-left, and-right, any-false, tabulate-at}
+use lib.Seq.{getD-set-other}
+use borrow.Author.Tests.{leb-false, eq-eqb, ne-eqb}
+use Rattle.cards.proofs.Below.{any-false, same-or-not, tabulate-at, tabulate-length}
 use Rattle.cards.specs.Below.{tabulate}
 use Rattle.lines.proofs.Silent.{Silent, none, kept, more, silent-append}
-use Rattle.rack.specs.Arbitrate.{byRule, numberOf, competes, competingBelow, loserIsFull, someLoserFull, countAfter, granted}
-use Rattle.rack.specs.Shown.{shownBy}
-use Rattle.rack.specs.State.{waits, countOf}
+use Rattle.rack.proofs.Tests.{set-default}
+use Rattle.rack.specs.Arbitrate.{byRule, numberOf, competes, competingBelow, fullLoser, someLoserFull}
+use Rattle.rack.specs.Arbitrate.{oneMore, losersCounted, winnerStopped, granted}
+use Rattle.rack.specs.Shown.{shownAt}
+use Rattle.rack.specs.State.{waitsIn, waits, countOf}
 use Rattle.rack.specs.declared.RackState.{RackState}
 
 at-most-one : (b : Bool) (x : ℕ) → length (cond b (x ∷ []) []) ≤ 1
@@ -27,10 +31,11 @@ competing-short s zero = omega arith
 competing-short s (suc n) = rw length-append (omega (arith, competing-short s n, at-most-one (competes s n) (numberOf s n)))
 
 -- what the cards below n show is their competing numbers with zeros put in
-pub shown-silent : (s : RackState) (n : ℕ) → Silent (competingBelow s n) (tabulate n (shownBy s))
-unfolding competingBelow tabulate shownBy
+pub shown-silent : (s : RackState) (n : ℕ)
+    → Silent (competingBelow s n) (tabulate n (shownAt (s .table .k) (s .table .rule) (s .last) (s .waiting) (s .counts)))
+unfolding competingBelow tabulate shownAt competes numberOf
 shown-silent s zero = none
-shown-silent s (suc n) = silent-append (shown-silent s n) (one (competes s n))
+shown-silent s (suc n) = silent-append (shown-silent s n) (one (waits s n))
   where
     one : (b : Bool) → Silent (cond b (numberOf s n ∷ []) []) (cond b (numberOf s n) 0 ∷ [])
     one true = kept none
@@ -48,20 +53,61 @@ other-rule (suc (suc (suc n))) x y z w p q r = refl
 pub product-small : (x y : ℕ) → x ≤ 64 → y < 256 → x * y ≤ 16320
 product-small x y h l = let l' : y ≤ 255 = omega arith in mul-le-mul h l'
 
--- a count after a grant
-pub granted-count : (s : RackState) (w n : ℕ) → n < 64 → countOf (granted s w) n ≡ countAfter s w n
-unfolding granted
-granted-count s w n l = tabulate-at 64 (countAfter s w) n 0 l
+-- ---- the counts after a grant to w
+
+module _ (s : RackState) (w : ℕ) where
+  pub winner-count : w < 64 → countOf (granted s w) w ≡ 0
+  unfolding granted losersCounted
+  winner-count below = go (eqb (s .table .rule) 2)
+    where
+      none : oneMore (winnerStopped s w) (set (s .counts) w 0) w ≡ 0
+      none = rw (set-default (s .waiting) w false, set-default (s .counts) w 0)
+
+      go : (b : Bool) → getD (cond b (tabulate 64 (oneMore (winnerStopped s w) (set (s .counts) w 0))) (set (s .counts) w 0)) w 0 ≡ 0
+      go true = tabulate-at 64 (oneMore (winnerStopped s w) (set (s .counts) w 0)) w 0 below ∙ none
+      go false = set-default (s .counts) w 0
+
+  -- under rule 2 a loser's grows by 1
+  pub loser-count : (n : ℕ) → n < 64 → n ≢ w → s .table .rule ≡ 2 → countOf (granted s w) n ≡ countOf s n + cond (waits s n) 1 0
+  unfolding granted losersCounted
+  loser-count n below other two =
+      rw (eq-eqb (s .table .rule) 2 two)
+      (tabulate-at 64 (oneMore (winnerStopped s w) (set (s .counts) w 0)) n 0 below
+      ∙ rw (getD-set-other (s .waiting) w n false false other, getD-set-other (s .counts) w n 0 0 other) (go (waits s n)))
+    where
+      go : (b : Bool) → cond b (countOf s n + 1) (countOf s n) ≡ countOf s n + cond b 1 0
+      go true = refl
+      go false = omega arith
+
+  -- under the others it stays
+  pub other-count : (n : ℕ) → n ≢ w → s .table .rule ≢ 2 → countOf (granted s w) n ≡ countOf s n
+  unfolding granted losersCounted
+  other-count n other not-two = rw (ne-eqb (s .table .rule) 2 not-two) (getD-set-other (s .counts) w n 0 0 other)
+
+  pub counts-length : length (s .counts) ≡ 64 → length (granted s w .counts) ≡ 64
+  unfolding granted losersCounted
+  counts-length long = go (eqb (s .table .rule) 2)
+    where
+      go : (b : Bool) → length (cond b (tabulate 64 (oneMore (winnerStopped s w) (set (s .counts) w 0))) (set (s .counts) w 0)) ≡ 64
+      go true = tabulate-length 64 (oneMore (winnerStopped s w) (set (s .counts) w 0))
+      go false = length-set (s .counts) w 0 ∙ long
 
 -- where no loser's count is full, a loser's count under rule 2 is below 2 ^ k - 1
-module _ (s : RackState) (w a : ℕ) (room : someLoserFull s w ≡ false) (below : a < 64) (other : a ≡ w → ⊥) where
-  pub not-full : s .table .rule ≡ 2 → waits s a ≡ true → countOf s a < 2 ^ s .table .k - 1
-  unfolding someLoserFull
-  not-full two t =
-      leb-false (2 ^ s .table .k - 1) (countOf s a)
-      (rw (ne-eqb a w other, t) at (any-false 64 (loserIsFull s w) (rw two at room) a below))
+pub not-full : (s : RackState) (w a : ℕ) → someLoserFull s w ≡ false → a < 64 → a ≢ w → s .table .rule ≡ 2 → waits s a ≡ true
+    → countOf s a < 2 ^ s .table .k - 1
+unfolding someLoserFull
+not-full s w a room below other two t =
+    leb-false (2 ^ s .table .k - 1) (countOf s a)
+    (rw (ne-eqb a w other, t) at (any-false 64 (fullLoser (2 ^ s .table .k - 1) (s .waiting) (s .counts) w) (rw two at room) a below))
 
-  pub loser-room : s .table .k ≤ 6 → (waits s a && eqb (s .table .rule) 2) ≡ true → countOf s a < 63
-  loser-room small h =
-      let span : 2 ^ s .table .k ≤ 2 ^ 6 = pow-mono small in
-      omega (arith, not-full (eqb-true _ _ (and-right (waits s a) _ h)) (and-left (waits s a) _ h))
+-- so that one more has room
+pub loser-room : (s : RackState) (w : ℕ) → someLoserFull s w ≡ false → s .table .k ≤ 6 → s .table .rule ≡ 2
+    → (a : ℕ) → a < 64 → waitsIn (winnerStopped s w) a ≡ true → getD (set (s .counts) w 0) a 0 < 255
+loser-room s w room small two a below t = go (same-or-not a w)
+  where
+    go : (a ≡ w) ⊎ (a ≢ w) → getD (set (s .counts) w 0) a 0 < 255
+    go (inl p) = rw (p, set-default (s .counts) w 0) (omega arith)
+    go (inr d) =
+        let span : 2 ^ s .table .k ≤ 2 ^ 6 = pow-mono small in
+        let waiting : waits s a ≡ true = sym (getD-set-other (s .waiting) w a false false d) ∙ t in
+        rw (getD-set-other (s .counts) w a 0 0 d) (omega (arith, not-full s w a room below d two waiting))

@@ -3,6 +3,7 @@ pub mod Filled
 pub mod Formed
 pub mod Laws
 pub mod Refusals
+pub mod Leaving
 pub mod Numbers
 pub mod Winner
 pub mod Seen

@@ -13,7 +13,7 @@ use Rattle.lines.specs.Greatest.{greatest}
 use Rattle.lines.specs.Settle.{refusal, done}
 use Rattle.rack.proofs.Formed.{Formed, formed-width, formed-rule, waiting-below, waiting-card, card-small}
 use Rattle.rack.proofs.Laws.{competing-short}
-use Rattle.rack.specs.Arbitrate.{byRule, linesOf, numberOf, competes, competingBelow, competing, settlingOf}
+use Rattle.rack.specs.Arbitrate.{byRule, linesOf, numberBy, numberOf, competes, competingBelow, competing, settlingOf}
 use Rattle.rack.specs.State.{waits, countOf}
 use Rattle.rack.specs.declared.RackState.{RackState}
 
@@ -26,11 +26,11 @@ competitor-waits s a t = t
 -- ---- the number as each rule has it: the card's own number and a multiple of 2 ^ k
 
 pub number-0 : (s : RackState) → s .table .rule ≡ 0 → (a : ℕ) → numberOf s a ≡ a
-unfolding numberOf byRule
+unfolding numberOf numberBy byRule
 number-0 s e a = rw e
 
 pub number-1 : (s : RackState) → s .table .rule ≡ 1 → (a : ℕ) → numberOf s a ≡ a + cond (ltb a (s .last)) (2 ^ s .table .k) 0
-unfolding numberOf byRule
+unfolding numberOf numberBy byRule
 number-1 s e a = rw e (go (ltb a (s .last)))
   where
     go : (t : Bool) → cond t (a + 2 ^ s .table .k) a ≡ a + cond t (2 ^ s .table .k) 0
@@ -38,7 +38,7 @@ number-1 s e a = rw e (go (ltb a (s .last)))
     go false = omega arith
 
 pub number-2 : (s : RackState) → s .table .rule ≡ 2 → (a : ℕ) → numberOf s a ≡ a + 2 ^ s .table .k * countOf s a
-unfolding numberOf byRule
+unfolding numberOf numberBy byRule
 number-2 s e a = rw e
 
 -- ---- the rule's lines carry them
@@ -109,11 +109,13 @@ unfolding greatest
 greatest-append [] ys = omega arith
 greatest-append (x ∷ xs) ys = rw (greatest-append xs ys) (omega arith)
 
-pub greatest-more : (s : RackState) (n : ℕ) → greatest (competingBelow s (suc n)) ≡ max (greatest (competingBelow s n)) (cond (competes s n) (numberOf s n) 0)
+pub greatest-more : (s : RackState) (n : ℕ)
+    → greatest (competingBelow s (suc n)) ≡ max (greatest (competingBelow s n)) (cond (competes s n) (numberOf s n) 0)
 unfolding competingBelow greatest
 greatest-more s n = rw (greatest-append (competingBelow s n) (cond (competes s n) (numberOf s n ∷ []) [])) (one (competes s n))
   where
-    one : (b : Bool) → max (greatest (competingBelow s n)) (greatest (cond b (numberOf s n ∷ []) [])) ≡ max (greatest (competingBelow s n)) (cond b (numberOf s n) 0)
+    one : (b : Bool) → max (greatest (competingBelow s n)) (greatest (cond b (numberOf s n ∷ []) []))
+        ≡ max (greatest (competingBelow s n)) (cond b (numberOf s n) 0)
     one true = omega arith
     one false = refl
 
@@ -133,4 +135,5 @@ settles s f = rw accepted
     accepted : refusal (linesOf s) (competing s) 13 ≡ 0
     accepted =
         let w : Wide s (linesOf s) = wide s f in
-        not-refused (linesOf s) (competing s) 13 (w .range .0) (w .range .1) (competing-short s 64) (greatest-fits s (linesOf s) w 64) (omega (arith, w .range))
+        not-refused (linesOf s) (competing s) 13 (w .range .0) (w .range .1) (competing-short s 64)
+        (greatest-fits s (linesOf s) w 64) (omega (arith, w .range))

@@ -5,8 +5,8 @@ use native.Mathlib.Omega.{arith}
 use mathlib.Core.Bool.{Bool, true, false, cond, not}
 use mathlib.Core.Logic.{_≢_}
 use mathlib.Core.Path.{_≡_, refl, ap}
-use borrow.Author.Tests.{eqb-true, eqb-false}
 use lib.Dec.{eqb}
+use borrow.Author.Tests.{eqb-true, eqb-false}
 use Rattle.cards.specs.Below.{anyBelow}
 use Rattle.cards.specs.Table.{inTable}
 use Rattle.lines.specs.declared.Settled.{Settled}
@@ -14,7 +14,7 @@ use Rattle.rack.proofs.Formed.{formed-of}
 use Rattle.rack.proofs.Numbers.{settles}
 use Rattle.rack.proofs.Refusals.{may-request, may-release, MayArbitrate, may-arbitrate}
 use Rattle.rack.proofs.Winner.{Won, won}
-use Rattle.rack.specs.Arbitrate.{winnerOf, settlingOf, someLoserFull, granted, grantTo, wonBy, arbitrated, arbitrateRefusal, arbitrateOf, byLetter, eventOf}
+use Rattle.rack.specs.Arbitrate.{winnerOf, settlingOf, someLoserFull, granted, wonBy, arbitrated, arbitrateRefusal, arbitrateOf, eventOf}
 use Rattle.rack.specs.Events.{answered, answeredBy, requested, requestRefusal, requestOf, released, releaseRefusal, releaseOf}
 use Rattle.rack.specs.State.{waits, isClosed, isHolder, wellFormed}
 use Rattle.rack.specs.declared.Outcome.{Outcome}
@@ -24,12 +24,13 @@ use Rattle.rack.specs.declared.RackState.{RackState}
 pub data NoGrant (s : RackState) : RackState → ℕ → Type 0 where
   refused : {n : ℕ} → n ≢ 16 → n ≢ 0 → NoGrant s s n
   full : (w : ℕ) → wellFormed s ≡ true → someLoserFull s w ≡ true → NoGrant s s 16
-  asked : (c : ℕ) → wellFormed s ≡ true → inTable (s .table) c ≡ true → waits s c ≡ false → NoGrant s (requested s c) 0
-  handed : (c : ℕ) → wellFormed s ≡ true → inTable (s .table) c ≡ true → isHolder (s .bus) c ≡ true → NoGrant s (released s) 0
+  asked : (c : ℕ) → wellFormed s ≡ true → inTable (s .table .slots) c ≡ true → waits s c ≡ false → NoGrant s (requested s c) 0
+  handed : (c : ℕ) → wellFormed s ≡ true → inTable (s .table .slots) c ≡ true → isHolder (s .bus) c ≡ true → NoGrant s (released s) 0
 
 pub data Seen (s : RackState) (o : Outcome) : Type 0 where
   quiet : o .winner ≡ 0 → NoGrant s (o .state) (o .answer) → Seen s o
-  grant : o .answer ≡ 0 → isClosed (s .bus) ≡ false → someLoserFull s (o .winner) ≡ false → o .state ≡ granted s (o .winner) → Won s (o .winner) → Seen s o
+  grant : o .answer ≡ 0 → isClosed (s .bus) ≡ false → someLoserFull s (o .winner) ≡ false → o .state ≡ granted s (o .winner)
+      → Won s (o .winner) → Seen s o
 
 either : {s : RackState} (t : Bool) {x y : Outcome} → (t ≡ true → Seen s x) → (t ≡ false → Seen s y) → Seen s (cond t x y)
 either true f g = f refl
@@ -51,14 +52,14 @@ request-seen : (s : RackState) (a : ℕ) → Seen s (requestOf s a)
 unfolding requestRefusal
 request-seen s a =
     by-refusal s (requestRefusal (wellFormed s) s a) (answered (requested s a) 0)
-    (no-16 (not (wellFormed s)) (not (inTable (s .table) a)) (waits s a) 17 11 12 (omega arith) (omega arith) (omega arith))
+    (no-16 (not (wellFormed s)) (not (inTable (s .table .slots) a)) (waits s a) 17 11 12 (omega arith) (omega arith) (omega arith))
     (λ none. let may = may-request (wellFormed s) s a none in quiet refl (asked a (may .told) (may .known) (may .new)))
 
 release-seen : (s : RackState) (a : ℕ) → Seen s (releaseOf s a)
 unfolding releaseRefusal
 release-seen s a =
     by-refusal s (releaseRefusal (wellFormed s) s a) (answered (released s) 0)
-    (no-16 (not (wellFormed s)) (not (inTable (s .table) a)) (not (isHolder (s .bus) a)) 17 11 15 (omega arith) (omega arith) (omega arith))
+    (no-16 (not (wellFormed s)) (not (inTable (s .table .slots) a)) (not (isHolder (s .bus) a)) 17 11 15 (omega arith) (omega arith) (omega arith))
     (λ none. let may = may-release (wellFormed s) s a none in quiet refl (handed a (may .told) (may .known) (may .holds)))
 
 arbitrated-seen : (s : RackState) → MayArbitrate (wellFormed s) s → Seen s (arbitrated s)
@@ -66,7 +67,8 @@ unfolding arbitrated wonBy
 arbitrated-seen s may =
     let done : settlingOf s .answer ≡ 0 = ap (λ (t : Settled). t .answer) (settles s (formed-of s (may .told))) in
     rw done
-    (either (someLoserFull s (winnerOf s)) (λ f. quiet refl (full _ (may .told) f)) (λ room. grant refl (may .free) room refl (won s (may .told) (may .some))))
+    (either (someLoserFull s (winnerOf s)) (λ f. quiet refl (full _ (may .told) f))
+    (λ room. grant refl (may .free) room refl (won s (may .told) (may .some))))
 
 arbitrate-seen : (s : RackState) → Seen s (arbitrateOf s)
 unfolding arbitrateRefusal

@@ -3,25 +3,24 @@
 use Prim.Native.Nat.{ℕ, zero, suc, _+_, _*_, _^_, _≤_, _<_, zero-le}
 use native.Mathlib.Nat.{mul-le-mul-left, le-refl, add-zero}
 use native.Mathlib.Omega.{arith}
-use mathlib.Core.Path.{_≡_, refl, sym, ap, _∙_}
-use mathlib.Core.Logic.{_⊎_, inl, inr, _≢_}
-use mathlib.Core.Bool.{Bool, true, false, cond, true≢false, and-true}
+use mathlib.Core.Bool.{Bool, true, false, cond, true≢false}
 use mathlib.Core.List.{List, [], _∷_}
-use borrow.Author.Tests.{ltb-true, ltb-false, lt-ltb, le-ltb, eq-eqb, ne-eqb}
+use mathlib.Core.Logic.{inl, inr, _≢_}
+use mathlib.Core.Path.{_≡_, refl, sym, ap, _∙_}
 use lib.Dec.{ltb}
 use lib.ListN.{getD, set}
 use lib.Seq.{getD-set-other}
-use Rattle.rack.specs.declared.RackState.{RackState}
+use borrow.Author.Tests.{ltb-true, ltb-false, lt-ltb, le-ltb}
+use Rattle.rack.proofs.Formed.{waiting-below, waiting-card, card-small}
+use Rattle.rack.proofs.Laws.{winner-count, loser-count}
+use Rattle.rack.proofs.Numbers.{number-1, number-2}
+use Rattle.rack.proofs.Seen.{NoGrant, refused, full, asked, handed}
+use Rattle.rack.proofs.Tests.{set-default}
+use Rattle.rack.proofs.Winner.{FairRule, Won, all-compete}
+use Rattle.rack.specs.Arbitrate.{numberOf, granted}
 use Rattle.rack.specs.Events.{requested}
 use Rattle.rack.specs.State.{waits, countOf}
-use Rattle.rack.specs.Arbitrate.{numberOf, countAfter, granted}
-use Rattle.cards.proofs.Below.{same-or-not}
-use Rattle.rack.proofs.Tests.{set-default}
-use Rattle.rack.proofs.Seen.{NoGrant, refused, full, asked, handed}
-use Rattle.rack.proofs.Formed.{waiting-below, waiting-card, card-small}
-use Rattle.rack.proofs.Laws.{granted-count}
-use Rattle.rack.proofs.Numbers.{number-1, number-2}
-use Rattle.rack.proofs.Winner.{FairRule, Won, all-compete}
+use Rattle.rack.specs.declared.RackState.{RackState}
 
 -- ---- lists
 
@@ -42,7 +41,6 @@ pub record Quiet (s s′ : RackState) : Type 0 where
   pub still-waits : (a : ℕ) → waits s a ≡ true → waits s′ a ≡ true
   pub same-count : (a : ℕ) → waits s a ≡ true → countOf s′ a ≡ countOf s a
   pub no-greater-count : (b : ℕ) → countOf s′ b ≤ countOf s b
-  pub new-count : (a : ℕ) → waits s′ a ≡ true → (waits s a ≡ true) ⊎ (countOf s′ a ≡ 0)
 
 -- a refusal, a release, and a request by a card that did not wait
 same-marks : {s s′ : RackState} → s′ .table ≡ s .table → s′ .last ≡ s .last → s′ .waiting ≡ s .waiting → s′ .counts ≡ s .counts → Quiet s s′
@@ -53,7 +51,6 @@ same-marks table last waiting counts =
       still-waits = λ a t. rw waiting t;
       same-count = λ a t. rw counts;
       no-greater-count = λ b. rw counts (le-refl _);
-      new-count = λ a t. inl (rw waiting at t);
     }
 
 requested-quiet : (s : RackState) (n : ℕ) → waits s n ≡ false → Quiet s (requested s n)
@@ -64,15 +61,10 @@ requested-quiet s n f =
       still-waits = λ a t. getD-set-other (s .waiting) n a true false (other a t) ∙ t;
       same-count = λ a t. getD-set-other (s .counts) n a 0 0 (other a t);
       no-greater-count = set-zero-le (s .counts) n;
-      new-count = λ a t. newly a t (same-or-not a n);
     }
   where
     other : (a : ℕ) → waits s a ≡ true → a ≢ n
     other a t p = true≢false (sym t ∙ ap (waits s) p ∙ f)
-
-    newly : (a : ℕ) → getD (set (s .waiting) n true) a false ≡ true → (a ≡ n) ⊎ (a ≢ n) → (waits s a ≡ true) ⊎ (getD (set (s .counts) n 0) a 0 ≡ 0)
-    newly a t (inl p) = inr (rw p (set-default (s .counts) n 0))
-    newly a t (inr q) = inl (sym (getD-set-other (s .waiting) n a true false q) ∙ t)
 
 pub no-grant-quiet : {s x : RackState} {n : ℕ} → NoGrant s x n → Quiet s x
 no-grant-quiet (refused i j) = same-marks refl refl refl refl
@@ -112,7 +104,8 @@ module _ (M w a b : ℕ) (ha : a < M) (hb : b < M) (hw : w < M) (w≢a : w ≢ a
   turned (three p q) = rw (le-ltb b w (omega arith), le-ltb a w (omega arith)) (omega arith)
 
 -- an event that grants nothing keeps the order
-pub quiet-lower : {s s′ : RackState} → Quiet s s′ → FairRule (s .table .rule) → (a b : ℕ) → waits s a ≡ true → numberOf s b < numberOf s a → numberOf s′ b < numberOf s′ a
+pub quiet-lower : {s s′ : RackState} → Quiet s s′ → FairRule (s .table .rule) → (a b : ℕ) → waits s a ≡ true → numberOf s b < numberOf s a
+    → numberOf s′ b < numberOf s′ a
 quiet-lower {s} {s′} q r a b t l = go r
   where
     ruled : {n : ℕ} → s .table .rule ≡ n → s′ .table .rule ≡ n
@@ -140,28 +133,8 @@ module _ (s : RackState) (w : ℕ) where
   unfolding granted
   loser-waits a n t = getD-set-other (s .waiting) w a false false (λ p. n (sym p)) ∙ t
 
-  -- who waits after a grant waited before, and is not the winner
-  pub waited : (a : ℕ) → waits (granted s w) a ≡ true → (w ≢ a) × (waits s a ≡ true)
-  unfolding granted
-  waited a t = (n, sym (getD-set-other (s .waiting) w a false false (λ p. n (sym p))) ∙ t)
-    where
-      n : w ≢ a
-      n p = true≢false (sym t ∙ ap (λ (x : ℕ). getD (set (s .waiting) w false) x false) (sym p) ∙ set-default (s .waiting) w false)
-
 -- and under a fair rule
 module _ (s : RackState) (w : ℕ) (r : FairRule (s .table .rule)) (won : Won s w) where
-  winner-count : countOf (granted s w) w ≡ 0
-  unfolding countAfter
-  winner-count = rw (granted-count s w w (won .below), eq-eqb w w refl)
-
-  pub loser-count : s .table .rule ≡ 2 → (x : ℕ) → x < 64 → w ≢ x → countOf (granted s w) x ≡ countOf s x + cond (waits s x) 1 0
-  unfolding countAfter
-  loser-count e x h n = rw (granted-count s w x h, ne-eqb x w (λ p. n (sym p)), e, and-true (waits s x)) (go (waits s x))
-    where
-      go : (t : Bool) → cond t (countOf s x + 1) (countOf s x) ≡ countOf s x + cond t 1 0
-      go true = refl
-      go false = omega arith
-
   number-1-after : s .table .rule ≡ 1 → (x : ℕ) → numberOf (granted s w) x ≡ x + cond (ltb x w) (2 ^ s .table .k) 0
   unfolding granted
   number-1-after e x = number-1 (granted s w) e x
@@ -183,7 +156,13 @@ module _ (s : RackState) (w : ℕ) (r : FairRule (s .table .rule)) (won : Won s 
         go : FairRule (s .table .rule) → numberOf (granted s w) w < numberOf (granted s w) a
         go (inl e) = rw (number-1-after e w, number-1-after e a, le-ltb w w (le-refl w)) (rw (add-zero w) (by-number (ltb a w) refl))
         go (inr e) =
-            rw (number-2-after e w, number-2-after e a, winner-count, loser-count e a (waiting-below s (won .formed) a t) n, t)
+            rw (
+              number-2-after e w,
+              number-2-after e a,
+              winner-count s w (won .below),
+              loser-count s w a (waiting-below s (won .formed) a t) (λ p. n (sym p)) e,
+              t,
+            )
             (omega (arith, won .small))
 
     -- a card that is behind a is not the winner, and stays behind a
@@ -216,5 +195,11 @@ module _ (s : RackState) (w : ℕ) (r : FairRule (s .table .rule)) (won : Won s 
             (s .last) (ltb a (s .last)) (ltb b (s .last)) (ltb w (s .last)) refl refl refl
             (rw (number-1 s e b, number-1 s e a) at (h .lower)) (rw (number-1 s e a, number-1 s e w) at best)))
         go (inr e) =
-            rw (number-2-after e b, number-2-after e a, loser-count e b (h .b-below) (behind-not-winner b h), loser-count e a a-below n, t)
+            rw (
+              number-2-after e b,
+              number-2-after e a,
+              loser-count s w b (h .b-below) (λ p. behind-not-winner b h (sym p)) e,
+              loser-count s w a a-below (λ p. n (sym p)) e,
+              t,
+            )
             (grows (waits s b) (rw (number-2 s e b, number-2 s e a) at (h .lower)))

@@ -44,7 +44,8 @@ reach : (s : RackState) (m a : ℕ) → a < m → competes s a ≡ true → numb
 reach s zero a h t = absurd (not-suc-le-zero h)
 reach s (suc m) a h t = go (eq-or-lt-of-le (le-of-suc-le-suc h)) (reach s m a)
   where
-    go : (a ≡ m) ⊎ (a < m) → (a < m → competes s a ≡ true → numberOf s a ≤ greatest (competingBelow s m)) → numberOf s a ≤ greatest (competingBelow s (suc m))
+    go : (a ≡ m) ⊎ (a < m) → (a < m → competes s a ≡ true → numberOf s a ≤ greatest (competingBelow s m))
+        → numberOf s a ≤ greatest (competingBelow s (suc m))
     go (inl p) ih = rw (greatest-more s m, ← p, t) (omega arith)
     go (inr l) ih = rw (greatest-more s m) (omega (arith, ih l t))
 
@@ -89,7 +90,8 @@ won s ok some = go (formed-of s ok) (top s 64)
         let card : isCard s w ≡ true = waiting-card s f w (competitor-waits s w t) in
         let small : w < 2 ^ s .table .k = card-small s f w l card in
         let same : winnerOf s ≡ w =
-        rw (settles s f, settled-greatest (linesOf s) (competing s) 0 (greatest-fits s (linesOf s) (wide s f) 64) (pow-pos (linesOf s)), p) (wide s f .own w small)
+        rw (settles s f, settled-greatest (linesOf s) (competing s) 0 (greatest-fits s (linesOf s) (wide s f) 64) (pow-pos (linesOf s)), p)
+        (wide s f .own w small)
         in
         rw same (record {
           formed = f;

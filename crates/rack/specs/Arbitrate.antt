@@ -3,12 +3,12 @@ use Prim.Native.Nat.{ℕ, zero, suc, _+_, _-_, _*_, _^_, _%_}
 use mathlib.Core.Bool.{Bool, false, cond, not, _&&_}
 use mathlib.Core.List.{List, [], _∷_, _++_}
 use lib.Dec.{ltb, leb, eqb}
-use lib.ListN.{set}
+use lib.ListN.{getD, set}
 use Rattle.cards.specs.Below.{anyBelow, tabulate}
 use Rattle.lines.specs.Settle.{refusal, settledOr}
 use Rattle.lines.specs.declared.Settled.{Settled}
 use Rattle.rack.specs.Events.{answered, answeredBy, requestOf, releaseOf}
-use Rattle.rack.specs.State.{waits, countOf, isClosed, wellFormed, withMarks, withBus}
+use Rattle.rack.specs.State.{waitsIn, waits, countOf, isClosed, wellFormed, withMarks, withBus}
 use Rattle.rack.specs.declared.Bus.the-variants.{Held}
 use Rattle.rack.specs.declared.Outcome.{Outcome}
 use Rattle.rack.specs.declared.RackState.{RackState}
@@ -25,13 +25,19 @@ byRule (suc (suc (suc n))) fixed robin arrival other = other
 unfoldable pub linesOf : RackState → ℕ
 linesOf s = byRule (s .table .rule) (s .table .k) (s .table .k + 1) (s .table .k * 2) 0
 
--- the competing number of a waiting card a
-unfoldable pub numberOf : RackState → ℕ → ℕ
-numberOf s a =
-    byRule (s .table .rule) a
-    (cond (ltb a (s .last)) (a + 2 ^ s .table .k) a)
-    (a + 2 ^ s .table .k * countOf s a)
+-- the competing number of a card a with this waiting count: under rule 0 a; under rule 1 a, plus 2 ^ k if a is less than the last winner; under
+-- rule 2 a plus 2 ^ k times its count
+unfoldable pub numberBy : ℕ → ℕ → ℕ → ℕ → ℕ → ℕ
+numberBy k rule last count a =
+    byRule rule a
+    (cond (ltb a last) (a + 2 ^ k) a)
+    (a + 2 ^ k * count)
     0
+
+-- that of a waiting card a in the state s
+unfoldable pub numberOf : RackState → ℕ → ℕ
+unfolding numberBy
+numberOf s a = numberBy (s .table .k) (s .table .rule) (s .last) (countOf s a) a
 
 -- the waiting cards compete
 unfoldable pub competes : RackState → ℕ → Bool
@@ -54,22 +60,28 @@ abbrev pub winnerOf : RackState → ℕ
 winnerOf s = settlingOf s .lines % 2 ^ s .table .k
 
 -- refusal 16: under rule 2 a loser's count is already 2 ^ k - 1
-abbrev pub isLoser : RackState → ℕ → ℕ → Bool
-isLoser s w a = not (eqb a w) && waits s a
-
-abbrev pub loserIsFull : RackState → ℕ → ℕ → Bool
-loserIsFull s w a = isLoser s w a && leb (2 ^ s .table .k - 1) (countOf s a)
+abbrev pub fullLoser : ℕ → List Bool → List ℕ → ℕ → ℕ → Bool
+fullLoser full waiting counts w a = not (eqb a w) && waitsIn waiting a && leb full (getD counts a 0)
 
 unfoldable pub someLoserFull : RackState → ℕ → Bool
-someLoserFull s w = eqb (s .table .rule) 2 && anyBelow 64 (loserIsFull s w)
+someLoserFull s w = eqb (s .table .rule) 2 && anyBelow 64 (fullLoser (2 ^ s .table .k - 1) (s .waiting) (s .counts) w)
 
--- the winner's count becomes 0; under rule 2 every loser's grows by 1
-unfoldable pub countAfter : RackState → ℕ → ℕ → ℕ
-countAfter s w a = cond (eqb a w) 0 (cond (waits s a && eqb (s .table .rule) 2) (countOf s a + 1) (countOf s a))
+-- The winner stops waiting, its count becomes 0, it holds the bus and is the last winner. Under rule 2 every loser's count grows by 1: losers
+-- are the cards that still wait.
+abbrev pub oneMore : List Bool → List ℕ → ℕ → ℕ
+oneMore waiting counts a = cond (waitsIn waiting a) (getD counts a 0 + 1) (getD counts a 0)
 
--- the winner stops waiting, holds the bus and is the last winner
+unfoldable pub losersCounted : ℕ → List Bool → List ℕ → List ℕ
+losersCounted rule waiting counts = cond (eqb rule 2) (tabulate 64 (oneMore waiting counts)) counts
+
+abbrev pub winnerStopped : RackState → ℕ → List Bool
+winnerStopped s w = set (s .waiting) w false
+
+abbrev pub countsAfter : RackState → ℕ → List ℕ
+countsAfter s w = losersCounted (s .table .rule) (winnerStopped s w) (set (s .counts) w 0)
+
 unfoldable pub granted : RackState → ℕ → RackState
-granted s w = withBus (withMarks s (set (s .waiting) w false) (tabulate 64 (countAfter s w))) w (Held w)
+granted s w = withBus (withMarks s (winnerStopped s w) (countsAfter s w)) w (Held w)
 
 -- the outcome of a grant to w with these settled lines
 abbrev pub grantTo : RackState → ℕ → Settled → Outcome
@@ -86,10 +98,12 @@ arbitrated s = cond (eqb (settlingOf s .answer) 0) (wonBy s (winnerOf s) (settli
 unfoldable pub arbitrateRefusal : Bool → RackState → ℕ
 arbitrateRefusal formed s = cond (not formed) 17 (cond (isClosed (s .bus)) 13 (cond (not (anyBelow 64 (waits s))) 14 0))
 
--- a number width over 6 is that of no well-formed state, whatever the event is told
+-- As the event is told whether the state is well formed. It asks the width again, since a caller may tell it what is not so, and 2 ^ k is worked out
+-- in 16 bits: a width over 6 is that of no well-formed state, so 17 is the answer there too.
 abbrev pub arbitrateBy : Bool → RackState → Outcome
 arbitrateBy formed s = answeredBy (arbitrateRefusal (formed && leb (s .table .k) 6) s) s (arbitrated s)
 
+-- The event of document 01. A well-formed state has a width of at most 6, so this is `arbitrateBy` told the truth: law `told-truth` of the proofs.
 abbrev pub arbitrateOf : RackState → Outcome
 arbitrateOf s = answeredBy (arbitrateRefusal (wellFormed s) s) s (arbitrated s)
 

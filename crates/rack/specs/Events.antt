@@ -22,7 +22,7 @@ answeredBy n s done = cond (eqb n 0) done (answered s n)
 
 -- a request: 17, 11, 12, or the card a begins to wait, with count 0
 unfoldable pub requestRefusal : Bool → RackState → ℕ → ℕ
-requestRefusal formed s a = cond (not formed) 17 (cond (not (inTable (s .table) a)) 11 (cond (waits s a) 12 0))
+requestRefusal formed s a = cond (not formed) 17 (cond (not (inTable (s .table .slots) a)) 11 (cond (waits s a) 12 0))
 
 abbrev pub requested : RackState → ℕ → RackState
 requested s a = withMarks s (set (s .waiting) a true) (set (s .counts) a 0)
@@ -35,7 +35,7 @@ requestOf s a = requestBy (wellFormed s) s a
 
 -- a release: 17, 11, 15, or the bus becomes free, and the last winner stays
 unfoldable pub releaseRefusal : Bool → RackState → ℕ → ℕ
-releaseRefusal formed s a = cond (not formed) 17 (cond (not (inTable (s .table) a)) 11 (cond (not (isHolder (s .bus) a)) 15 0))
+releaseRefusal formed s a = cond (not formed) 17 (cond (not (inTable (s .table .slots) a)) 11 (cond (not (isHolder (s .bus) a)) 15 0))
 
 abbrev pub released : RackState → RackState
 released s = withBus s (s .last) Free

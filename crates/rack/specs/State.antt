@@ -2,8 +2,8 @@
 use Prim.Native.Nat.{ℕ, _^_}
 use mathlib.Core.Bool.{Bool, true, false, not, _&&_, _||_}
 use mathlib.Core.List.{List}
-use lib.ListN.{length, getD, replicate}
 use lib.Dec.{ltb, eqb}
+use lib.ListN.{length, getD, replicate}
 use Rattle.cards.specs.Below.{allBelow}
 use Rattle.cards.specs.Table.{hasCard, inTable, tableGood}
 use Rattle.cards.specs.declared.Table.{Table}
@@ -12,8 +12,11 @@ use Rattle.rack.specs.declared.Bus.the-variants.{Free, Held}
 use Rattle.rack.specs.declared.RackState.{RackState}
 
 -- the card of that number waits
+abbrev pub waitsIn : List Bool → ℕ → Bool
+waitsIn waiting a = getD waiting a false
+
 abbrev pub waits : RackState → ℕ → Bool
-waits s a = getD (s .waiting) a false
+waits s a = waitsIn (s .waiting) a
 
 -- its waiting count
 abbrev pub countOf : RackState → ℕ → ℕ
@@ -34,9 +37,9 @@ isHolder Free a = false
 isHolder (Held h) a = eqb h a
 
 -- the holder, if any, is a card of the table and the last winner
-abbrev pub holderOk : Table → ℕ → Bus → Bool
-holderOk t last Free = true
-holderOk t last (Held h) = eqb h last && inTable t h
+abbrev pub holderOk : List ℕ → ℕ → Bus → Bool
+holderOk slots last Free = true
+holderOk slots last (Held h) = eqb h last && inTable slots h
 
 -- the marks that the number a may have: only a card waits; a count is below 2 ^ k, and 0 but for a waiting card under rule 2
 unfoldable pub markFits : Table → ℕ → Bool → ℕ → Bool
@@ -48,10 +51,10 @@ markOk s a = markFits (s .table) a (waits s a) (countOf s a)
 
 -- the last winner is a card of the table, or 0 for none yet
 abbrev pub lastOk : RackState → Bool
-lastOk s = eqb (s .last) 0 || inTable (s .table) (s .last)
+lastOk s = eqb (s .last) 0 || inTable (s .table .slots) (s .last)
 
 abbrev pub busOk : RackState → Bool
-busOk s = holderOk (s .table) (s .last) (s .bus)
+busOk s = holderOk (s .table .slots) (s .last) (s .bus)
 
 -- each array has its 64 places, as every state of the program has
 abbrev pub sizedOk : RackState → Bool

@@ -1,58 +1,45 @@
-// The refusals of each event, and the states and outcomes that events make.
+// What events answer: refusals, replies and outcomes.
+ghost use mathlib.Core.Bool.{cond, not};
 ghost use mathlib.Core.Path.{_≡_};
-ghost use mathlib.Core.Bool.{cond};
-ghost use Prim.Native.Nat.{_<_};
-ghost use Rattle.rack.specs.State.{withBus};
-ghost use Rattle.rack.specs.Events.{answered, requested, requestRefusal, releaseRefusal};
-ghost use Rattle.rack.specs.Arbitrate.{arbitrateRefusal};
-use super::Bus;
+ghost use Rattle.rack.specs.Events.{answered};
+ghost use Rattle.rack.specs.Lent.{quietReply, outcomeFrom};
+use super::Hold;
 use super::Outcome;
 use super::RackState;
-use super::marks::is_closed;
-use super::marks::is_holder;
-use super::marks::somebody_waits;
-use super::marks::waits_at;
+use super::Reply;
+use cards::Table;
 
-// The state with another last winner and bus. A field that is an enum is not stored to: this is the one place that writes the state anew.
-pub(crate) fn with_bus(s: RackState, last: u8, bus: Bus) -> RackState
-    ensures { λ r. ⌜ r ≡ withBus s last bus ⌝ }
+// The first refusal that fits: 17 for a state that is not well formed, then the number of the first test that holds; or 0.
+pub(crate) fn refusal_by(formed: bool, test: bool, number: u8, next: bool, other: u8) -> u8
+    ensures { λ r. ⌜ r ≡ cond (not formed) 17 (cond test number (cond next other 0)) ⌝ }
 {
-    let table = s.table;
-    let waiting = s.waiting;
-    let counts = s.counts;
-    RackState {
-        table,
-        waiting,
-        counts,
-        last,
-        bus,
+    if !formed {
+        return 17;
     }
-}
-
-// The card a begins to wait, with count 0.
-pub(crate) fn with_request(s: RackState, a: u8) -> RackState
-    requires { ⌜ a < 64 ⌝ }
-    ensures { λ r. ⌜ r ≡ requested s a ⌝ }
-{
-    let i = a as usize;
-    let mut next = s;
-    next.waiting[i] = true;
-    next.counts[i] = 0;
-    next
-}
-
-// The number where the test holds, and else the rest: a table of refusals is a chain of these, the first match first.
-pub(crate) fn first(test: bool, number: u8, rest: u8) -> u8
-    ensures { λ r. ⌜ r ≡ cond test number rest ⌝ }
-{
     if test {
         return number;
     }
-    rest
+    if next {
+        return other;
+    }
+    0
 }
 
-// An answer with winner, lines and stages 0: a refusal with the state given, or a request or a release that is done.
-pub(crate) fn answer(s: RackState, number: u8) -> Outcome
+// An answer with winner, lines and stages 0: a refusal, or a request or a release that is done.
+pub(crate) fn quiet(hold: Hold, number: u8) -> Reply
+    ensures { λ r. ⌜ r ≡ quietReply hold number ⌝ }
+{
+    Reply {
+        hold,
+        answer: number,
+        winner: 0,
+        lines: 0,
+        stages: 0,
+    }
+}
+
+// A refusal with the state given.
+pub(crate) fn refused(s: RackState, number: u8) -> Outcome
     ensures { λ r. ⌜ r ≡ answered s number ⌝ }
 {
     Outcome {
@@ -64,49 +51,23 @@ pub(crate) fn answer(s: RackState, number: u8) -> Outcome
     }
 }
 
-// 17, 11 and 12, or 0.
-pub(crate) fn request_refusal(formed: bool, s: RackState, a: u8) -> u8
-    ensures { λ r. ⌜ r ≡ requestRefusal formed s a ⌝ }
+// The outcome of which a reply leaves out the table and the marks.
+pub(crate) fn outcome_of(table: Table, waiting: [bool; 64], counts: [u8; 64], r: Reply) -> Outcome
+    ensures { λ o. ⌜ o ≡ outcomeFrom table waiting counts r ⌝ }
 {
-    first(
-        !formed,
-        17,
-        first(
-            !cards::in_table(s.table, a),
-            11,
-            first(waits_at(s, a), 12, 0),
-        ),
-    )
-}
-
-// 17, 11 and 15, or 0.
-pub(crate) fn release_refusal(formed: bool, s: RackState, a: u8) -> u8
-    ensures { λ r. ⌜ r ≡ releaseRefusal formed s a ⌝ }
-{
-    let bus = s.bus;
-    first(
-        !formed,
-        17,
-        first(
-            !cards::in_table(s.table, a),
-            11,
-            first(!is_holder(bus, a), 15, 0),
-        ),
-    )
-}
-
-// 17, 13 and 14, or 0.
-pub(crate) fn arbitrate_refusal(formed: bool, s: RackState) -> u8
-    ensures { λ r. ⌜ r ≡ arbitrateRefusal formed s ⌝ }
-{
-    let bus = s.bus;
-    first(
-        !formed,
-        17,
-        first(
-            is_closed(bus),
-            13,
-            first(!somebody_waits(s), 14, 0),
-        ),
-    )
+    let hold = r.hold;
+    let bus = hold.bus;
+    Outcome {
+        state: RackState {
+            table,
+            waiting,
+            counts,
+            last: hold.last,
+            bus,
+        },
+        answer: r.answer,
+        winner: r.winner,
+        lines: r.lines,
+        stages: r.stages,
+    }
 }

@@ -1,22 +1,37 @@
 // Arbitration: the competing numbers, their settling, and the grant.
 // What is called for each card takes the numbers that it reads, and not the state, which would be copied each time.
-ghost use Prim.Native.Nat.{_+_, _*_, _^_, _≤_, _<_};
-ghost use mathlib.Core.Bool.{true, false, cond, _&&_};
+ghost use Prim.Native.Nat.{ℕ, _+_, _*_, _^_, _≤_, _<_};
+ghost use mathlib.Core.Bool.{true, false, cond};
+ghost use mathlib.Core.List.{List};
 ghost use mathlib.Core.Path.{_≡_};
-ghost use lib.Dec.{ltb, eqb};
-ghost use Rattle.cards.specs.Below.{tabulate};
-ghost use Rattle.rack.specs.Shown.{shownBy};
-ghost use Rattle.rack.specs.Arbitrate.{byRule, linesOf, settlingOf, someLoserFull, countAfter, granted, wonBy, arbitrated};
+ghost use lib.ListN.{getD};
+ghost use Rattle.cards.specs.Below.{anyBelow, tabulate};
+ghost use Rattle.rack.specs.Arbitrate.{arbitrated, byRule, fullLoser, numberBy, oneMore, settlingOf, someLoserFull, wonBy};
+ghost use Rattle.rack.specs.Lent.{stateOf, tableOf, Leaves};
+ghost use Rattle.rack.specs.Shown.{shownAt};
+ghost use Rattle.rack.specs.State.{waitsIn};
+ghost use Rattle.rack.specs.declared.Bus.{Bus};
+ghost use Rattle.rack.specs.declared.Hold.{Hold};
 use super::Bus;
-use super::Outcome;
-use super::RackState;
-use super::answers::answer;
-use super::answers::with_bus;
+use super::Hold;
+use super::Reply;
+use super::answers::quiet;
 use super::marks::span;
 use lines::Settled;
 
+// Whether some card waits.
+pub(crate) fn somebody_waits(waiting: &[bool; 64]) -> bool
+    ensures { λ r. ⌜ r ≡ anyBelow 64 (waitsIn (now (waiting .entry))) ⌝ }
+{
+    let mut some = false;
+    for a in 0..64usize {
+        some = some | waiting[a];
+    }
+    some
+}
+
 // How many lines the rule has. Another rule has none, and no settling takes 0 lines.
-pub(crate) fn lines_of(rule: u8, k: u8) -> u8
+pub(crate) fn lines_of(k: u8, rule: u8) -> u8
     requires { ⌜ k ≤ 6 ⌝ }
     ensures { λ r. ⌜ r ≡ byRule rule k (k + 1) (k * 2) 0 ⌝ }
 {
@@ -28,10 +43,10 @@ pub(crate) fn lines_of(rule: u8, k: u8) -> u8
     }
 }
 
-// The competing number of the card a.
+// The competing number of the card a, where the span is 2 to the number width.
 pub(crate) fn number_by(rule: u8, span: u16, last: u8, a: usize, count: u8) -> u16
     requires { ⌜ (a < 64) × (span ≤ 64) ⌝ }
-    ensures { λ r. ⌜ r ≡ byRule rule a (cond (ltb a last) (a + span) a) (a + span * count) 0 ⌝ }
+    ensures { λ r. ⌜ ((k : ℕ) → span ≡ 2 ^ k → r ≡ numberBy k rule last count a) ⌝ }
 {
     let own = a as u16;
     match rule {
@@ -58,98 +73,126 @@ pub(crate) fn shown(competes: bool, number: u16) -> u16
 }
 
 // What each card shows the lines.
-pub(crate) fn numbers_of(s: RackState) -> [u16; 64]
-    requires { ⌜ s .table .k ≤ 6 ⌝ }
-    ensures { λ r. ⌜ r ≡ tabulate 64 (shownBy s) ⌝ }
+pub(crate) fn numbers_of(
+    k: u8,
+    rule: u8,
+    last: u8,
+    waiting: &[bool; 64],
+    counts: &[u8; 64],
+) -> [u16; 64]
+    requires { ⌜ k ≤ 6 ⌝ }
+    ensures { λ r. ⌜ r ≡ tabulate 64 (shownAt k rule last (now (waiting .entry)) (now (counts .entry))) ⌝ }
 {
-    let rule = s.table.rule;
-    let span = span(s.table.k);
-    let last = s.last;
+    let span = span(k);
     let mut numbers = [0u16; 64];
     for a in 0..64usize {
-        numbers[a] = shown(s.waiting[a], number_by(rule, span, last, a, s.counts[a]));
+        numbers[a] = shown(waiting[a], number_by(rule, span, last, a, counts[a]));
     }
     numbers
 }
 
 // The settling of the competing cards.
-pub(crate) fn settling_of(s: RackState) -> Settled
-    requires { ⌜ s .table .k ≤ 6 ⌝ }
-    ensures { λ r. ⌜ r ≡ settlingOf s ⌝ }
+pub(crate) fn settling_of(
+    k: u8,
+    rule: u8,
+    last: u8,
+    waiting: &[bool; 64],
+    counts: &[u8; 64],
+) -> Settled
+    requires { ⌜ k ≤ 6 ⌝ }
+    ensures { λ r. ⌜ ((slots : List ℕ) (bus : Bus)
+        → r ≡ settlingOf (stateOf (tableOf k rule slots) (now (waiting .entry)) (now (counts .entry)) (record { last = last; bus = bus }))) ⌝ }
 {
-    let m = lines_of(s.table.rule, s.table.k);
-    let numbers = numbers_of(s);
+    let m = lines_of(k, rule);
+    let numbers = numbers_of(k, rule, last, waiting, counts);
     let mut stages = [0u16; 13];
     lines::settle(m, &numbers, &mut stages)
 }
 
-// Under rule 2: whether a loser's count is already 2 ^ k - 1.
-pub(crate) fn some_loser_full(s: RackState, w: u8) -> bool
-    requires { ⌜ s .table .k ≤ 6 ⌝ }
-    ensures { λ r. ⌜ r ≡ someLoserFull s w ⌝ }
+// Whether a loser's count is already `full`.
+pub(crate) fn some_full_loser(full: u8, waiting: &[bool; 64], counts: &[u8; 64], w: u8) -> bool
+    ensures { λ r. ⌜ r ≡ anyBelow 64 (fullLoser full (now (waiting .entry)) (now (counts .entry)) w) ⌝ }
 {
-    let full = span(s.table.k) - 1;
     let winner = w as usize;
     let mut some = false;
     for a in 0..64usize {
-        some = some | ((a != winner) & s.waiting[a] & (full <= (s.counts[a] as u16)));
+        some = some | ((a != winner) & waiting[a] & (full <= counts[a]));
     }
-    (s.table.rule == 2) & some
+    some
 }
 
-// The count of the number a after the grant to w.
-pub(crate) fn count_by(arrival: bool, w: u8, a: usize, waits: bool, count: u8) -> u8
-    requires { ⌜ ((a ≡ w → ⊥) → (waits && arrival) ≡ true → count < 63) ⌝ }
-    ensures { λ r. ⌜ r ≡ cond (eqb a w) 0 (cond (waits && arrival) (count + 1) count) ⌝ }
+// Under rule 2 alone: refusal 16.
+pub(crate) fn some_loser_full(
+    k: u8,
+    rule: u8,
+    waiting: &[bool; 64],
+    counts: &[u8; 64],
+    w: u8,
+) -> bool
+    requires { ⌜ k ≤ 6 ⌝ }
+    ensures { λ r. ⌜ ((slots : List ℕ) (hold : Hold)
+        → r ≡ someLoserFull (stateOf (tableOf k rule slots) (now (waiting .entry)) (now (counts .entry)) hold) w) ⌝ }
 {
-    if a == (w as usize) {
-        return 0;
+    if rule == 2 {
+        let full = (span(k) - 1) as u8;
+        return some_full_loser(full, waiting, counts, w);
     }
-    if waits & arrival {
+    false
+}
+
+// A card's count, one more if the card waits.
+pub(crate) fn one_more(waits: bool, count: u8) -> u8
+    requires { ⌜ (waits ≡ true → count < 255) ⌝ }
+    ensures { λ r. ⌜ r ≡ cond waits (count + 1) count ⌝ }
+{
+    if waits {
         return count + 1;
     }
     count
 }
 
-// The counts after the grant to w.
-pub(crate) fn counts_after(s: RackState, w: u8) -> [u8; 64]
-    requires { ⌜ s .table .k ≤ 6 ⌝ }
-    requires { ⌜ someLoserFull s w ≡ false ⌝ }
-    ensures { λ r. ⌜ r ≡ tabulate 64 (countAfter s w) ⌝ }
+// The counts, one more for each card that waits.
+pub(crate) fn one_more_each(waiting: &[bool; 64], counts: &[u8; 64]) -> [u8; 64]
+    requires { ⌜ ((a : ℕ) → a < 64 → waitsIn (now waiting) a ≡ true → getD (now counts) a 0 < 255) ⌝ }
+    ensures { λ r. ⌜ r ≡ tabulate 64 (oneMore (now (waiting .entry)) (now (counts .entry))) ⌝ }
 {
-    let arrival = s.table.rule == 2;
-    let mut counts = [0u8; 64];
+    let mut next = [0u8; 64];
     for a in 0..64usize {
-        counts[a] = count_by(arrival, w, a, s.waiting[a], s.counts[a]);
+        next[a] = one_more(waiting[a], counts[a]);
     }
-    counts
+    next
 }
 
-// The state after the grant to w.
-pub(crate) fn with_grant(s: RackState, w: u8) -> RackState
-    requires { ⌜ (w < 64) × (s .table .k ≤ 6) ⌝ }
-    requires { ⌜ someLoserFull s w ≡ false ⌝ }
-    ensures { λ r. ⌜ r ≡ granted s w ⌝ }
+// The outcome where w wins with these settled lines, on the lent marks: refusal 16, or the grant.
+pub(crate) fn granted_in(
+    k: u8,
+    rule: u8,
+    waiting: &mut [bool; 64],
+    counts: &mut [u8; 64],
+    hold: Hold,
+    w: u8,
+    t: Settled,
+) -> Reply
+    requires { ⌜ (w < 64) × (k ≤ 6) ⌝ }
+    ensures { λ r. ⌜ ((slots : List ℕ)
+        → Leaves (wonBy (stateOf (tableOf k rule slots) (now (waiting .entry)) (now (counts .entry)) hold) w t) r
+        (now (waiting .exit)) (now (counts .exit))) ⌝ }
 {
+    if some_loser_full(k, rule, waiting, counts, w) {
+        return quiet(hold, 16);
+    }
     let i = w as usize;
-    let counts = counts_after(s, w);
-    let mut next = s;
-    next.waiting[i] = false;
-    next.counts = counts;
-    with_bus(next, w, Bus::Held(w))
-}
-
-// The outcome where w wins with these settled lines, or refusal 16.
-pub(crate) fn won_by(s: RackState, w: u8, t: Settled) -> Outcome
-    requires { ⌜ (w < 64) × (s .table .k ≤ 6) ⌝ }
-    ensures { λ r. ⌜ r ≡ wonBy s w t ⌝ }
-{
-    if some_loser_full(s, w) {
-        return answer(s, 16);
+    waiting[i] = false;
+    counts[i] = 0;
+    if rule == 2 {
+        let grown = one_more_each(waiting, counts);
+        *counts = grown;
     }
-    let next = with_grant(s, w);
-    Outcome {
-        state: next,
+    Reply {
+        hold: Hold {
+            last: w,
+            bus: Bus::Held(w),
+        },
         answer: 0,
         winner: w,
         lines: t.lines,
@@ -157,15 +200,23 @@ pub(crate) fn won_by(s: RackState, w: u8, t: Settled) -> Outcome
     }
 }
 
-// The cards settle, and the winner is the settled value modulo 2 ^ k. A state whose settling is refused is not well formed.
-pub(crate) fn arbitrated_on(s: RackState) -> Outcome
-    requires { ⌜ s .table .k ≤ 6 ⌝ }
-    ensures { λ r. ⌜ r ≡ arbitrated s ⌝ }
+// The outcome of the settling, on the lent marks. The winner is the settled value modulo 2 ^ k. A state whose settling is refused is not well formed.
+pub(crate) fn arbitrated_in(
+    hold: Hold,
+    k: u8,
+    rule: u8,
+    waiting: &mut [bool; 64],
+    counts: &mut [u8; 64],
+) -> Reply
+    requires { ⌜ k ≤ 6 ⌝ }
+    ensures { λ r. ⌜ ((slots : List ℕ)
+        → Leaves (arbitrated (stateOf (tableOf k rule slots) (now (waiting .entry)) (now (counts .entry)) hold)) r
+        (now (waiting .exit)) (now (counts .exit))) ⌝ }
 {
-    let t = settling_of(s);
+    let t = settling_of(k, rule, hold.last, waiting, counts);
     if t.answer != 0 {
-        return answer(s, 17);
+        return quiet(hold, 17);
     }
-    let w = (t.lines % span(s.table.k)) as u8;
-    won_by(s, w, t)
+    let w = (t.lines % span(k)) as u8;
+    granted_in(k, rule, waiting, counts, hold, w, t)
 }

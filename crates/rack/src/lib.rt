@@ -1,25 +1,24 @@
 // The rack: a state by value, which holds the card table, one array for each mark of a card, and the bus; its events; and its file.
 ghost use mathlib.Core.Path.{_≡_};
 ghost use lib.ListN.{length};
-ghost use Rattle.rack.specs.State.{wellFormed, freshOf};
-ghost use Rattle.rack.specs.Events.{requestBy, requestOf, releaseBy, releaseOf};
-ghost use Rattle.rack.specs.Arbitrate.{arbitrateBy, arbitrateOf, eventOf};
+ghost use Rattle.rack.specs.Arbitrate.{arbitrateOf, eventOf};
+ghost use Rattle.rack.specs.Events.{requestOf, releaseOf};
 ghost use Rattle.rack.specs.Files.{loadOf, saveOf, saveAfter};
-use answers::answer;
-use answers::arbitrate_refusal;
-use answers::release_refusal;
-use answers::request_refusal;
-use answers::with_bus;
-use answers::with_request;
-use arbitration::arbitrated_on;
+ghost use Rattle.rack.specs.State.{wellFormed, freshOf};
+use answers::outcome_of;
+use answers::refused;
 use cards::Saved;
 use cards::Table;
+use lent::arbitrate_in;
+use lent::release_in;
+use lent::request_in;
 use marks::bus_ok;
 use marks::last_ok;
 use marks::marks_ok;
 
 mod answers;
 mod arbitration;
+pub mod lent;
 mod marks;
 
 // The bus is free, or held by the card of that number.
@@ -52,6 +51,21 @@ pub struct Loaded {
     pub state: RackState,
 }
 
+// The last winner and the bus: what is left of a state beside its table and its marks.
+pub struct Hold {
+    pub last: u8,
+    pub bus: Bus,
+}
+
+// What an event on lent marks gives: an outcome without the table and the marks.
+pub struct Reply {
+    pub hold: Hold,
+    pub answer: u8,
+    pub winner: u8,
+    pub lines: u16,
+    pub stages: u8,
+}
+
 // Whether the state is well formed. A state that is not is refused with 17 by every event.
 pub fn well_formed(s: RackState) -> bool
     ensures { λ r. ⌜ r ≡ wellFormed s ⌝ }
@@ -75,57 +89,52 @@ pub fn fresh(t: Table) -> RackState
     }
 }
 
-// Each event has a second form, which is told whether the state is well formed: a run over many events finds that out once, since events keep it.
-
 // A card begins to wait.
 pub fn request(s: RackState, a: u8) -> Outcome
     ensures { λ r. ⌜ r ≡ requestOf s a ⌝ }
 {
-    request_by(well_formed(s), s, a)
-}
-
-pub fn request_by(formed: bool, s: RackState, a: u8) -> Outcome
-    ensures { λ r. ⌜ r ≡ requestBy formed s a ⌝ }
-{
-    let refusal = request_refusal(formed, s, a);
-    if refusal != 0 {
-        return answer(s, refusal);
-    }
-    answer(with_request(s, a), 0)
+    let table = s.table;
+    let slots = table.slots;
+    let mut waiting = s.waiting;
+    let mut counts = s.counts;
+    let bus = s.bus;
+    let hold = Hold { last: s.last, bus };
+    let r = request_in(well_formed(s), &slots, &mut waiting, &mut counts, hold, a);
+    outcome_of(table, waiting, counts, r)
 }
 
 // The holder lets the bus go. The last winner stays.
 pub fn release(s: RackState, a: u8) -> Outcome
     ensures { λ r. ⌜ r ≡ releaseOf s a ⌝ }
 {
-    release_by(well_formed(s), s, a)
-}
-
-pub fn release_by(formed: bool, s: RackState, a: u8) -> Outcome
-    ensures { λ r. ⌜ r ≡ releaseBy formed s a ⌝ }
-{
-    let refusal = release_refusal(formed, s, a);
-    if refusal != 0 {
-        return answer(s, refusal);
-    }
-    answer(with_bus(s, s.last, Bus::Free), 0)
+    let table = s.table;
+    let slots = table.slots;
+    let waiting = s.waiting;
+    let counts = s.counts;
+    let bus = s.bus;
+    let hold = Hold { last: s.last, bus };
+    let r = release_in(well_formed(s), &slots, hold, a);
+    outcome_of(table, waiting, counts, r)
 }
 
 // The waiting cards settle, and the winner holds the bus.
 pub fn arbitrate(s: RackState) -> Outcome
     ensures { λ r. ⌜ r ≡ arbitrateOf s ⌝ }
 {
-    arbitrate_by(well_formed(s), s)
-}
-
-pub fn arbitrate_by(formed: bool, s: RackState) -> Outcome
-    ensures { λ r. ⌜ r ≡ arbitrateBy formed s ⌝ }
-{
-    let refusal = arbitrate_refusal(formed & (s.table.k <= 6), s);
-    if refusal != 0 {
-        return answer(s, refusal);
-    }
-    arbitrated_on(s)
+    let table = s.table;
+    let mut waiting = s.waiting;
+    let mut counts = s.counts;
+    let bus = s.bus;
+    let hold = Hold { last: s.last, bus };
+    let r = arbitrate_in(
+        well_formed(s),
+        table.k,
+        table.rule,
+        &mut waiting,
+        &mut counts,
+        hold,
+    );
+    outcome_of(table, waiting, counts, r)
 }
 
 // An event by its letter: Q, A or R. Any other letter is refused with 18.
@@ -136,7 +145,7 @@ pub fn event(s: RackState, letter: u8, a: u8) -> Outcome
         b'Q' => request(s, a),
         b'A' => arbitrate(s),
         b'R' => release(s, a),
-        _ => answer(s, 18),
+        _ => refused(s, 18),
     }
 }
 
@@ -144,7 +153,7 @@ pub fn event(s: RackState, letter: u8, a: u8) -> Outcome
 pub fn load(file: &[u8]) -> Loaded
     ensures { λ r. ⌜ r ≡ loadOf (now (file .entry)) ⌝ }
 {
-    let loaded = cards::load_table(file);
+    let loaded = cardfile::load_table(file);
     let table = loaded.table;
     Loaded {
         answer: loaded.answer,

@@ -3,8 +3,8 @@ ghost use Prim.Native.Nat.{_^_, _≤_, _<_};
 ghost use mathlib.Core.Bool.{not, _&&_, _||_};
 ghost use mathlib.Core.Path.{_≡_};
 ghost use lib.Dec.{ltb, eqb};
-ghost use Rattle.cards.specs.Below.{allBelow, anyBelow};
-ghost use Rattle.rack.specs.State.{waits, markOk, lastOk, busOk, isClosed, isHolder};
+ghost use Rattle.cards.specs.Below.{allBelow};
+ghost use Rattle.rack.specs.State.{waitsIn, markOk, lastOk, busOk, isClosed, isHolder};
 use super::Bus;
 use super::RackState;
 
@@ -16,15 +16,15 @@ pub(crate) fn span(k: u8) -> u16
     1u16 << k
 }
 
-// Whether the card of that number waits.
-pub(crate) fn waits_at(s: RackState, a: u8) -> bool
-    ensures { λ r. ⌜ r ≡ waits s a ⌝ }
+// Whether the card of that number, one of the 64, waits.
+pub(crate) fn waits_at(waiting: &[bool; 64], a: u8) -> bool
+    ensures { λ r. ⌜ r ≡ (ltb a 64 && waitsIn (now (waiting .entry)) a) ⌝ }
 {
     if 64 <= a {
         return false;
     }
     let i = a as usize;
-    s.waiting[i]
+    waiting[i]
 }
 
 // Whether the card of that number holds the bus.
@@ -45,17 +45,6 @@ pub(crate) fn is_closed(bus: Bus) -> bool
         Bus::Free => false,
         Bus::Held(_) => true,
     }
-}
-
-// Whether some card waits.
-pub(crate) fn somebody_waits(s: RackState) -> bool
-    ensures { λ r. ⌜ r ≡ anyBelow 64 (waits s) ⌝ }
-{
-    let mut some = false;
-    for a in 0..64usize {
-        some = some | s.waiting[a];
-    }
-    some
 }
 
 // The marks of a number: only a card waits, a count is below 2 ^ k, and 0 but for a waiting card under rule 2.
@@ -84,16 +73,20 @@ pub(crate) fn marks_ok(s: RackState) -> bool
 pub(crate) fn last_ok(s: RackState) -> bool
     ensures { λ r. ⌜ r ≡ lastOk s ⌝ }
 {
-    (s.last == 0) | cards::in_table(s.table, s.last)
+    let table = s.table;
+    let slots = table.slots;
+    (s.last == 0) | cards::in_table(&slots, s.last)
 }
 
 // The holder, if any, is the last winner and a card of the table.
 pub(crate) fn bus_ok(s: RackState) -> bool
     ensures { λ r. ⌜ r ≡ busOk s ⌝ }
 {
+    let table = s.table;
+    let slots = table.slots;
     let bus = s.bus;
     match bus {
         Bus::Free => true,
-        Bus::Held(h) => (h == s.last) & cards::in_table(s.table, h),
+        Bus::Held(h) => (h == s.last) & cards::in_table(&slots, h),
     }
 }

@@ -16,7 +16,8 @@ use Rattle.lines.specs.Settling.{applied, stage}
 abbrev Inv-loop : tie.InvT-loop
 Inv-loop numbers lines joined₀ i₀ i-end joined i =
     (i ≤ length numbers)
-    × ((m : ℕ) → greatest numbers < 2 ^ m → lines < 2 ^ m → (joined < 2 ^ m) × (bitOr joined (stage m (drop i numbers) lines) ≡ stage m numbers lines))
+    × ((m : ℕ) → greatest numbers < 2 ^ m → lines < 2 ^ m
+    → (joined < 2 ^ m) × (bitOr joined (stage m (drop i numbers) lines) ≡ stage m numbers lines))
 
 abbrev μ-loop : tie.MeasureT-loop
 μ-loop numbers lines joined₀ i₀ i-end joined i = length numbers - i
@@ -50,7 +51,8 @@ loop-again c =
           let joined = head .loop .inv .1 m fits small in
           let is : c .applied-by .result ≡ applied m (given .lines) (getD numbers i 0) =
           c .applied-by .ensures m (omega (arith, joined .0)) (omega (arith, at-most-greatest numbers i)) in (
-            or-lt m (head .loop .joined) (c .applied-by .result) (joined .0) (omega (arith, applied-le m (given .lines) (getD numbers i 0), at-most-greatest numbers i)),
+            or-lt m (head .loop .joined) (c .applied-by .result) (joined .0)
+                (omega (arith, applied-le m (given .lines) (getD numbers i 0), at-most-greatest numbers i)),
             rw (add-one, is) (join-next m (head .loop .joined) (given .lines) i numbers (c .before .before .loop-test .taken) ∙ joined .1),
           ),
     )

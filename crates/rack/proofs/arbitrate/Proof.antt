@@ -1,16 +1,27 @@
-use Rattle.rack.proofs.Refusals.{told-truth}
+-- `rack::arbitrate` meets its contract: the outcome is made again from what the event on lent marks leaves. Assumes nothing.
+use mathlib.Core.Path.{_∙_}
 use borrow.Author.Needs.{needs}
+use Rattle.rack.proofs.Leaving.{table-kept, arbitrated-table, outcome-again}
+use Rattle.rack.proofs.Refusals.{told-truth}
 use Rattle.rack.proofs.arbitrate.Statement.{statement}
 use Rattle.rack.proofs.arbitrate.Tie as tie
 
 well-formed-requires : tie.Need-well-formed-requires
 well-formed-requires c κs = search needs
 
-arbitrate-by-requires : tie.Need-arbitrate-by-requires
-arbitrate-by-requires c κs = search needs
+arbitrate-in-requires : tie.Need-arbitrate-in-requires
+arbitrate-in-requires c κs = search needs
+
+outcome-of-requires : tie.Need-outcome-of-requires
+outcome-of-requires c κs = search needs
 
 returns : tie.Need-returns
-returns c = rw (c .arbitrate-by .ensures, c .before .well-formed .ensures) (told-truth (c .before .before .args .s))
+returns c =
+    let asked = c .before .before .before .before in
+    let s = asked .before .before .before .before .args .s in
+    c .outcome-of .ensures
+    ∙ outcome-again _ (s .table) _ _ _ (table-kept _ s _ (arbitrated-table s))
+    (rw (told-truth s) at (rw (asked .well-formed .ensures) at (c .before .arbitrate-in .ensures .left (s .table .slots))))
 
 pub arbitrate-spec : {M : Type 1} → statement M
-arbitrate-spec = tie.close (tie.spec well-formed-requires arbitrate-by-requires returns)
+arbitrate-spec = tie.close (tie.spec well-formed-requires arbitrate-in-requires outcome-of-requires returns)

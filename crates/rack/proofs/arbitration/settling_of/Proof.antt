@@ -7,6 +7,7 @@ use Rattle.rack.proofs.Laws.{shown-silent}
 use Rattle.rack.proofs.arbitration.settling_of.Statement.{statement}
 use Rattle.rack.proofs.arbitration.settling_of.Tie as tie
 use Rattle.rack.specs.Arbitrate.{linesOf}
+use Rattle.rack.specs.Lent.{stateOf, tableOf}
 
 lines-of-requires : tie.Need-lines-of-requires
 lines-of-requires c κs = search needs
@@ -25,9 +26,11 @@ settle-requires c κs = search needs
 
 returns : tie.Need-returns
 unfolding linesOf
-returns c =
-    let s = c .before .before .before .before .before .before .args .s in
-    rw (c .before .settle .ensures .result, c .before .before .before .before .numbers-of .ensures, c .before .before .before .before .before .lines-of .ensures)
+returns c slots bus =
+    let given = c .before .before .before .before .before .before .args in
+    let s = stateOf (tableOf (given .k) (given .rule) slots) (given .waiting .now) (given .counts .now) (record { last = given .last; bus = bus }) in
+    let shown = c .before .before .before .before in
+    rw (c .before .settle .ensures .result, shown .numbers-of .ensures, shown .before .lines-of .ensures)
     (result-silent (linesOf s) 13 (shown-silent s 64) (rw tabulate-length (omega arith)))
 
 pub settling-of-spec : {M : Type 1} → statement M

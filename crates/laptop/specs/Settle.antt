@@ -1,0 +1,22 @@
+-- What the settling entry for C answers and leaves in the lent buffer, for every input. Assumes nothing.
+use Prim.Native.Nat.{ℕ, zero, suc, _+_, _*_, _/_}
+use mathlib.Core.List.{List, _++_}
+use mathlib.Core.Path.{_≡_}
+use lib.ListN.{length, drop}
+use Rattle.laptop.specs.Words.{words, bytes}
+use Rattle.lines.specs.Settle.{refusal}
+use Rattle.lines.specs.Settling.{stages, trail}
+
+-- t, or 100 plus the refusal
+abbrev pub codeOr : ℕ → ℕ → List ℕ → ℕ
+codeOr zero m numbers = stages m numbers 0
+codeOr (suc refused) m numbers = 100 + suc refused
+
+-- the lines after stages 0 to t, two bytes for each, and the rest as it was; a refusal writes nothing
+abbrev pub bytesOr : ℕ → ℕ → List ℕ → List ℕ → List ℕ
+bytesOr zero m numbers buffer = bytes (trail m numbers 0 (stages m numbers 0)) ++ drop (2 * suc (stages m numbers 0)) buffer
+bytesOr (suc refused) m numbers buffer = buffer
+
+pub record SettlesBytes (m : ℕ) (numbers buffer : List ℕ) (r : ℕ) (last : List ℕ) : Type 0 where
+  pub result : r ≡ codeOr (refusal m (words numbers) (length buffer / 2)) m (words numbers)
+  pub left : last ≡ bytesOr (refusal m (words numbers) (length buffer / 2)) m (words numbers) buffer

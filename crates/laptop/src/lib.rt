@@ -1,0 +1,72 @@
+// Entries for the commissioning laptop's C program: numbers and byte slices only.
+ghost use Prim.Native.Nat.{_+_};
+ghost use mathlib.Core.Path.{_≡_};
+ghost use Rattle.cardfile.specs.Format.{loadTableOf};
+ghost use Rattle.laptop.specs.Settle.{SettlesBytes};
+ghost use Rattle.laptop.specs.Table.{GivesTable};
+use table::put_table;
+use words::few;
+use words::put_words;
+use words::words_of;
+
+mod table;
+mod words;
+
+// Settles m lines, with the competing numbers and the stage entries as bytes: t, or 100 plus the refusal.
+fn settle_bytes(m: u8, numbers: &[u8], stages: &mut [u8]) -> u32
+    ensures { λ r. ⌜ SettlesBytes m (now (numbers .entry)) (now (stages .entry)) r (now (stages .exit)) ⌝ }
+{
+    let list = words_of(numbers);
+    let count = few(numbers.len() / 2);
+    let mut lines = [0u16; 13];
+    let done = lines::settle(m, &list[..count], &mut lines);
+    let answer = done.answer;
+    if answer != 0 {
+        return 100 + (answer as u32);
+    }
+    if stages.len() / 2 <= m as usize {
+        return 124;
+    }
+    let t = done.stages;
+    let n = t as usize + 1;
+    put_words(&lines[..n], stages);
+    t as u32
+}
+
+// Settles m lines for C: t, or 100 plus the refusal. Any m over 12 is refused, and so none is cut to a byte.
+#[no_mangle]
+pub extern "C" fn rack_settle(m: u32, numbers: &[u8], stages: &mut [u8]) -> u32
+    ensures { λ r. ⌜ SettlesBytes m (now (numbers .entry)) (now (stages .entry)) r (now (stages .exit)) ⌝ }
+{
+    if 12 < m {
+        return 121;
+    }
+    settle_bytes(m as u8, numbers, stages)
+}
+
+// Checks the table of a file for C: the refusal, or 0.
+#[no_mangle]
+pub extern "C" fn rack_check(file: &[u8]) -> u32
+    ensures { λ r. ⌜ r ≡ loadTableOf (now (file .entry)) .answer ⌝ }
+{
+    let loaded = cardfile::load_table(file);
+    loaded.answer as u32
+}
+
+// The table of a file for C: the refusal, or 0 with k, the rule and the 64 slots by number at the front of the buffer.
+#[no_mangle]
+pub extern "C" fn rack_table(file: &[u8], out: &mut [u8]) -> u32
+    ensures { λ r. ⌜ GivesTable (now (file .entry)) (now (out .entry)) r (now (out .exit)) ⌝ }
+{
+    let loaded = cardfile::load_table(file);
+    let answer = loaded.answer;
+    if answer != 0 {
+        return answer as u32;
+    }
+    if out.len() < 66 {
+        return 8;
+    }
+    let table = loaded.table;
+    put_table(table, out);
+    0
+}

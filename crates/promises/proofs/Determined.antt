@@ -1,0 +1,137 @@
+-- For each public function: any two results that its contract admits for one input are equal, and so are the last contents of the memory that it was
+-- lent. Each contract stands here as the source has it, after `ensures`. Assumes nothing.
+use Prim.Native.Nat.{ℕ}
+use mathlib.Core.Bool.{Bool}
+use mathlib.Core.List.{List, []}
+use mathlib.Core.Path.{_≡_, sym, _∙_}
+use lib.ListN.{length}
+use Rattle.cardfile.specs.Format.{wordOf, loadTableOf}
+use Rattle.cards.specs.Saving.{savedOf, bufferAfter}
+use Rattle.cards.specs.Table.{inTable, topNumber, tableGood}
+use Rattle.cards.specs.declared.Table.{Table}
+use Rattle.laptop.specs.Settle.{SettlesBytes}
+use Rattle.laptop.specs.Table.{GivesTable}
+use Rattle.lines.specs.Settle.{Settles}
+use Rattle.rack.specs.Arbitrate.{arbitrateOf, eventOf}
+use Rattle.rack.specs.Events.{requestOf, releaseOf}
+use Rattle.rack.specs.Files.{loadOf, saveOf, saveAfter}
+use Rattle.rack.specs.Lent.{Leaves, Requests, Releases, Arbitrates}
+use Rattle.rack.specs.State.{wellFormed, freshOf}
+use Rattle.rack.specs.declared.Hold.{Hold}
+use Rattle.rack.specs.declared.Outcome.{Outcome}
+use Rattle.rack.specs.declared.RackState.{RackState}
+use Rattle.rack.specs.declared.Reply.{Reply}
+use Rattle.trace.specs.Line.{lineOf, textOf}
+use Rattle.trace.specs.Listing.{Lists}
+
+-- ---- a contract admits one result: of a function that is lent nothing, one buffer, or the two arrays of marks
+
+abbrev pub Determined : {A : Type 0} → (A → Type 0) → Type 0
+Determined {A} Admits = (x y : A) → Admits x → Admits y → x ≡ y
+
+abbrev pub DeterminedLeft : {A B : Type 0} → (A → B → Type 0) → Type 0
+DeterminedLeft {A} {B} Admits = (x y : A) (b c : B) → Admits x b → Admits y c → (x ≡ y) × (b ≡ c)
+
+abbrev pub DeterminedMarks : (Reply → List Bool → List ℕ → Type 0) → Type 0
+DeterminedMarks Admits =
+    (x y : Reply) (b c : List Bool) (l m : List ℕ) → Admits x b l → Admits y c m → (x ≡ y) × (b ≡ c) × (l ≡ m)
+
+-- ---- what they share
+
+pub one-result : {A : Type 0} {value x y : A} → x ≡ value → y ≡ value → x ≡ y
+one-result p q = p ∙ sym q
+
+pub one-result-left : {A B : Type 0} {value x y : A} {left b c : B} → (x ≡ value) × (b ≡ left) → (y ≡ value) × (c ≡ left) → (x ≡ y) × (b ≡ c)
+one-result-left p q = (one-result (p .0) (q .0), one-result (p .1) (q .1))
+
+pub one-reply : {o : Outcome} → DeterminedMarks (Leaves o)
+one-reply x y b c l m p q =
+    (one-result (p .reply) (q .reply), one-result (p .waiting-left) (q .waiting-left), one-result (p .counts-left) (q .counts-left))
+
+-- ---- lines
+
+pub settle-determined : (m : ℕ) (numbers buffer : List ℕ) → DeterminedLeft (Settles m numbers buffer)
+settle-determined m numbers buffer x y b c p q = one-result-left (p .result, p .left) (q .result, q .left)
+
+-- ---- cards
+
+pub top-number-determined : (k : ℕ) → Determined (λ r. r ≡ topNumber k)
+top-number-determined k x y = one-result
+
+pub in-table-determined : (slots : List ℕ) (a : ℕ) → Determined (λ r. r ≡ inTable slots a)
+in-table-determined slots a x y = one-result
+
+pub table-good-determined : (t : Table) → Determined (λ r. r ≡ tableGood t)
+table-good-determined t x y = one-result
+
+pub save-table-determined : (t : Table) (buf : List ℕ) → DeterminedLeft (λ r left. (r ≡ savedOf t (length buf)) × (left ≡ bufferAfter t buf))
+save-table-determined t buf x y b c = one-result-left
+
+-- ---- cardfile
+
+pub word-determined : (low high : ℕ) → Determined (λ r. r ≡ wordOf low high)
+word-determined low high x y = one-result
+
+pub load-table-determined : (file : List ℕ) → Determined (λ r. r ≡ loadTableOf file)
+load-table-determined file x y = one-result
+
+-- ---- rack
+
+pub well-formed-determined : (s : RackState) → Determined (λ r. r ≡ wellFormed s)
+well-formed-determined s x y = one-result
+
+pub fresh-determined : (t : Table) → Determined (λ r. r ≡ freshOf t)
+fresh-determined t x y = one-result
+
+pub request-determined : (s : RackState) (a : ℕ) → Determined (λ r. r ≡ requestOf s a)
+request-determined s a x y = one-result
+
+pub release-determined : (s : RackState) (a : ℕ) → Determined (λ r. r ≡ releaseOf s a)
+release-determined s a x y = one-result
+
+pub arbitrate-determined : (s : RackState) → Determined (λ r. r ≡ arbitrateOf s)
+arbitrate-determined s x y = one-result
+
+pub event-determined : (s : RackState) (letter a : ℕ) → Determined (λ r. r ≡ eventOf s letter a)
+event-determined s letter a x y = one-result
+
+pub load-determined : (file : List ℕ) → Determined (λ r. r ≡ loadOf file)
+load-determined file x y = one-result
+
+pub save-determined : (s : RackState) (buf : List ℕ) → DeterminedLeft (λ r left. (r ≡ saveOf s (length buf)) × (left ≡ saveAfter s buf))
+save-determined s buf x y b c = one-result-left
+
+-- ---- rack, on lent marks. A contract there holds whatever the parts are that the event does not look at: one choice of them will do.
+
+pub request-in-determined : (formed : Bool) (slots : List ℕ) (waiting : List Bool) (counts : List ℕ) (hold : Hold) (a : ℕ)
+    → DeterminedMarks (Requests formed slots waiting counts hold a)
+request-in-determined formed slots waiting counts hold a x y b c l m p q = one-reply x y b c l m (p .left 0 0) (q .left 0 0)
+
+pub release-in-determined : (formed : Bool) (slots : List ℕ) (hold : Hold) (a : ℕ) → Determined (Releases formed slots hold a)
+release-in-determined formed slots hold a x y p q = one-result (p .left 0 0 [] [] .reply) (q .left 0 0 [] [] .reply)
+
+pub arbitrate-in-determined : (formed : Bool) (k rule : ℕ) (waiting : List Bool) (counts : List ℕ) (hold : Hold)
+    → DeterminedMarks (Arbitrates formed k rule waiting counts hold)
+arbitrate-in-determined formed k rule waiting counts hold x y b c l m p q = one-reply x y b c l m (p .left []) (q .left [])
+
+-- ---- trace
+
+pub parse-determined : (letter gap tens ones end : ℕ) → Determined (λ r. r ≡ lineOf letter gap tens ones end)
+parse-determined letter gap tens ones end x y = one-result
+
+pub text-determined : (a b c d answer winner lines stages : ℕ) → Determined (λ r. r ≡ textOf a b c d answer winner lines stages)
+text-determined a b c d answer winner lines stages x y = one-result
+
+pub run-determined : (s : RackState) (trace buffer : List ℕ) → DeterminedLeft (Lists s trace buffer)
+run-determined s trace buffer x y b c p q = one-result-left (p .result, p .left) (q .result, q .left)
+
+-- ---- laptop
+
+pub rack-settle-determined : (m : ℕ) (numbers buffer : List ℕ) → DeterminedLeft (SettlesBytes m numbers buffer)
+rack-settle-determined m numbers buffer x y b c p q = one-result-left (p .result, p .left) (q .result, q .left)
+
+pub rack-check-determined : (file : List ℕ) → Determined (λ r. r ≡ loadTableOf file .answer)
+rack-check-determined file x y = one-result
+
+pub rack-table-determined : (file buffer : List ℕ) → DeterminedLeft (GivesTable file buffer)
+rack-table-determined file buffer x y b c p q = one-result-left (p .result, p .left) (q .result, q .left)

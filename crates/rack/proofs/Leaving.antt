@@ -1,0 +1,69 @@
+-- How an event on lent marks leaves them, where it is refused and where it is done. Assumes nothing.
+use Prim.Native.Nat.{ℕ, _^_, _%_}
+use mathlib.Core.Bool.{Bool, true, false, cond}
+use mathlib.Core.List.{List}
+use mathlib.Core.Logic.{_≢_}
+use mathlib.Core.Path.{_≡_, refl}
+use lib.Dec.{eqb}
+use borrow.Author.Tests.{eq-eqb, ne-eqb}
+use Rattle.cards.specs.declared.Table.{Table}
+use Rattle.lines.specs.declared.Settled.{Settled}
+use Rattle.rack.specs.Arbitrate.{settlingOf, winnerOf, someLoserFull, granted, grantTo, wonBy, arbitrated}
+use Rattle.rack.specs.Events.{answered, answeredBy}
+use Rattle.rack.specs.Lent.{stateOf, quietReply, outcomeFrom, Leaves}
+use Rattle.rack.specs.declared.Hold.{Hold}
+use Rattle.rack.specs.declared.Outcome.{Outcome}
+use Rattle.rack.specs.declared.RackState.{RackState}
+use Rattle.rack.specs.declared.Reply.{Reply}
+
+module _ (table : Table) (waiting : List Bool) (counts : List ℕ) (hold : Hold) where
+  -- a refusal returns the state given, and winner, lines and stages 0
+  pub leaves-answered : (n : ℕ) → Leaves (answered (stateOf table waiting counts hold) n) (quietReply hold n) waiting counts
+  leaves-answered n = record { reply = refl; waiting-left = refl; counts-left = refl }
+
+  pub leaves-refused : (n : ℕ) (done : Outcome) → n ≢ 0
+      → Leaves (answeredBy n (stateOf table waiting counts hold) done) (quietReply hold n) waiting counts
+  unfolding answeredBy
+  leaves-refused n done some = rw (ne-eqb n 0 some) (leaves-answered n)
+
+pub leaves-done : (n : ℕ) (s : RackState) (done : Outcome) {r : Reply} {waiting : List Bool} {counts : List ℕ}
+    → n ≡ 0 → Leaves done r waiting counts → Leaves (answeredBy n s done) r waiting counts
+unfolding answeredBy
+leaves-done n s done none left = rw (eq-eqb n 0 none) left
+
+-- ---- the outcome again, from what an event leaves: no event changes the table
+
+either : (t : Table) (b : Bool) (x y : Outcome) → x .state .table ≡ t → y .state .table ≡ t → cond b x y .state .table ≡ t
+either t true x y p q = p
+either t false x y p q = q
+
+pub table-kept : (n : ℕ) (s : RackState) (done : Outcome) → done .state .table ≡ s .table → answeredBy n s done .state .table ≡ s .table
+unfolding answeredBy
+table-kept n s done same = either (s .table) (eqb n 0) done (answered s n) same refl
+
+pub arbitrated-table : (s : RackState) → arbitrated s .state .table ≡ s .table
+unfolding arbitrated wonBy granted
+arbitrated-table s =
+    either (s .table) (eqb (settlingOf s .answer) 0) (wonBy s (winnerOf s) (settlingOf s)) (answered s 17)
+    (either (s .table) (someLoserFull s (winnerOf s)) (answered s 16) (grantTo s (winnerOf s) (settlingOf s)) refl refl) refl
+
+pub state-again : (o : Outcome) (table : Table) (r : Reply) (waiting : List Bool) (counts : List ℕ)
+    → o .state .table ≡ table → Leaves o r waiting counts → stateOf table waiting counts (r .hold) ≡ o .state
+state-again o table r waiting counts same left = rw (← same, left .reply, left .waiting-left, left .counts-left)
+
+pub outcome-again : (o : Outcome) (table : Table) (r : Reply) (waiting : List Bool) (counts : List ℕ)
+    → o .state .table ≡ table → Leaves o r waiting counts → outcomeFrom table waiting counts r ≡ o
+outcome-again o table r waiting counts same left = rw (← same, left .reply, left .waiting-left, left .counts-left)
+
+-- an arbitration, by what its settling answers
+module _ (table : Table) (waiting : List Bool) (counts : List ℕ) (hold : Hold)
+    (t : Settled) (is : t ≡ settlingOf (stateOf table waiting counts hold)) where
+  pub leaves-unsettled : t .answer ≢ 0 → Leaves (arbitrated (stateOf table waiting counts hold)) (quietReply hold 17) waiting counts
+  unfolding arbitrated
+  leaves-unsettled some = rw (← is, ne-eqb (t .answer) 0 some) (leaves-answered table waiting counts hold 17)
+
+  pub leaves-settled : t .answer ≡ 0 → {r : Reply} {waiting′ : List Bool} {counts′ : List ℕ}
+      → Leaves (wonBy (stateOf table waiting counts hold) (t .lines % 2 ^ table .k) t) r waiting′ counts′
+      → Leaves (arbitrated (stateOf table waiting counts hold)) r waiting′ counts′
+  unfolding arbitrated
+  leaves-settled none left = rw (← is, eq-eqb (t .answer) 0 none) left

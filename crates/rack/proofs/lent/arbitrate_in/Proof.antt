@@ -1,0 +1,82 @@
+-- `rack::lent::arbitrate_in` meets its contract: by the refusal, whose chain is the definition's. Assumes nothing.
+use Prim.Native.Nat.{ℕ, _≤_}
+use mathlib.Core.Bool.{not, _&&_}
+use mathlib.Core.List.{List, []}
+use mathlib.Core.Path.{_≡_, sym, ap, _∙_}
+use lib.Dec.{leb}
+use borrow.Author.Needs.{needs}
+use Rattle.cards.specs.declared.Table.{Table}
+use Rattle.rack.proofs.Leaving.{leaves-refused, leaves-done}
+use Rattle.rack.proofs.Refusals.{worked-out, may-width}
+use Rattle.rack.proofs.lent.arbitrate_in.Statement.{statement}
+use Rattle.rack.proofs.lent.arbitrate_in.Tie as tie
+use Rattle.rack.specs.Arbitrate.{arbitrated, arbitrateRefusal}
+use Rattle.rack.specs.Lent.{stateOf, tableOf}
+use Rattle.rack.specs.declared.RackState.{RackState}
+
+is-closed-requires : tie.Need-is-closed-requires
+is-closed-requires c κs = search needs
+
+somebody-waits-requires : tie.Need-somebody-waits-requires
+somebody-waits-requires c κs = search needs
+
+refusal-by-requires : tie.Need-refusal-by-requires
+refusal-by-requires c κs = search needs
+
+quiet-requires : tie.Need-quiet-requires
+quiet-requires c κs = search needs
+
+-- the chain is the definition's, whatever the slots are
+module _ (c : tie.After-refusal-by) (slots : List ℕ) where
+  abbrev given : tie.Start
+  given = c .before .before .before .before
+
+  abbrev table : Table
+  table = tableOf (given .args .k) (given .args .rule) slots
+
+  abbrev state : RackState
+  state = stateOf table (given .args .waiting .now) (given .args .counts .now) (given .args .hold)
+
+  told : c .refusal-by .result ≡ arbitrateRefusal (given .args .formed && leb (given .args .k) 6) state
+  unfolding arbitrateRefusal
+  told =
+      let closed = c .before .before .before .is-closed in
+      let some = c .before .somebody-waits in
+      worked-out (given .args .formed && leb (given .args .k) 6) (closed .result) (not (some .result)) 13 14 (c .refusal-by .ensures)
+      (closed .ensures) (ap not (some .ensures))
+
+  width : c .refusal-by .result ≡ 0 → given .args .k ≤ 6
+  width none = may-width (given .args .formed) state (sym told ∙ none)
+
+returns : tie.Need-returns
+returns c =
+    let chain = c .before .before in
+    record {
+      left = λ slots.
+          let is = told chain slots in
+          rw (c .quiet .ensures, is) (leaves-refused (table chain slots) _ _ _ _ _ (λ none. c .before .if1 .taken (is ∙ none)));
+    }
+
+arbitrated-in-requires : tie.Need-arbitrated-in-requires
+arbitrated-in-requires c κs = width (c .before .before .before) [] (c .before .before .if1 .left)
+
+returns-2 : tie.Need-returns-2
+returns-2 c =
+    let idle = c .before .before .before in
+    record {
+      left = λ slots.
+          let s = state (idle .before) slots in
+          leaves-done _ s (arbitrated s) (sym (told (idle .before) slots) ∙ idle .if1 .left) (c .arbitrated-in .ensures slots);
+    }
+
+pub arbitrate-in-spec : {M : Type 1} → statement M
+arbitrate-in-spec =
+    tie.close
+    (tie.spec
+    is-closed-requires
+    somebody-waits-requires
+    refusal-by-requires
+    quiet-requires
+    returns
+    arbitrated-in-requires
+    returns-2)

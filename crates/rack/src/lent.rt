@@ -1,0 +1,79 @@
+// The events, on marks that the caller lends: a run over many events keeps its marks in one place and finds out once whether the state is well
+// formed, since events keep it so. Each is told that, and refuses with 17 where it is told no.
+ghost use Rattle.rack.specs.Lent.{Requests, Releases, Arbitrates};
+use super::Bus;
+use super::Hold;
+use super::Reply;
+use super::answers::quiet;
+use super::answers::refusal_by;
+use super::arbitration::arbitrated_in;
+use super::arbitration::somebody_waits;
+use super::marks::is_closed;
+use super::marks::is_holder;
+use super::marks::waits_at;
+
+// A card begins to wait, with count 0: 17, 11 and 12, or 0.
+pub fn request_in(
+    formed: bool,
+    slots: &[u8; 64],
+    waiting: &mut [bool; 64],
+    counts: &mut [u8; 64],
+    hold: Hold,
+    a: u8,
+) -> Reply
+    ensures { λ r. ⌜ Requests formed (now (slots .entry)) (now (waiting .entry)) (now (counts .entry)) hold a r
+        (now (waiting .exit)) (now (counts .exit)) ⌝ }
+{
+    let known = cards::in_table(slots, a);
+    let waits = waits_at(waiting, a);
+    let refusal = refusal_by(formed, !known, 11, waits, 12);
+    if refusal != 0 {
+        return quiet(hold, refusal);
+    }
+    let i = a as usize;
+    waiting[i] = true;
+    counts[i] = 0;
+    quiet(hold, 0)
+}
+
+// The holder lets the bus go, and the last winner stays: 17, 11 and 15, or 0.
+pub fn release_in(formed: bool, slots: &[u8; 64], hold: Hold, a: u8) -> Reply
+    ensures { λ r. ⌜ Releases formed (now (slots .entry)) hold a r ⌝ }
+{
+    let bus = hold.bus;
+    let known = cards::in_table(slots, a);
+    let holds = is_holder(bus, a);
+    let refusal = refusal_by(formed, !known, 11, !holds, 15);
+    if refusal != 0 {
+        return quiet(hold, refusal);
+    }
+    quiet(
+        Hold {
+            last: hold.last,
+            bus: Bus::Free,
+        },
+        0,
+    )
+}
+
+// The waiting cards settle, and the winner holds the bus: 17, 13, 14 and 16, or 0.
+pub fn arbitrate_in(
+    formed: bool,
+    k: u8,
+    rule: u8,
+    waiting: &mut [bool; 64],
+    counts: &mut [u8; 64],
+    hold: Hold,
+) -> Reply
+    ensures { λ r. ⌜ Arbitrates formed k rule (now (waiting .entry)) (now (counts .entry)) hold r
+        (now (waiting .exit)) (now (counts .exit)) ⌝ }
+{
+    let bus = hold.bus;
+    let closed = is_closed(bus);
+    let some = somebody_waits(waiting);
+    let refusal = refusal_by(formed & (k <= 6), closed, 13, !some, 14);
+    if refusal != 0 {
+        return quiet(hold, refusal);
+    }
+    arbitrated_in(hold, k, rule, waiting, counts)
+}

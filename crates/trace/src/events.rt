@@ -1,0 +1,47 @@
+// A line of the trace, answered.
+ghost use mathlib.Core.Path.{_≡_};
+ghost use Rattle.rack.specs.Lent.{stateOf, tableOf, quietReply, Leaves};
+ghost use Rattle.rack.specs.State.{wellFormed};
+ghost use Rattle.trace.specs.Line.{lineOutcome};
+use super::Line;
+use rack::Hold;
+use rack::Reply;
+use rack::lent::arbitrate_in;
+use rack::lent::release_in;
+use rack::lent::request_in;
+
+// A line that is refused as it stands.
+fn malformed(hold: Hold) -> Reply
+    ensures { λ r. ⌜ r ≡ quietReply hold 18 ⌝ }
+{
+    Reply {
+        hold,
+        answer: 18,
+        winner: 0,
+        lines: 0,
+        stages: 0,
+    }
+}
+
+// The event of a line, on the lent marks.
+pub(crate) fn answer_line(
+    formed: bool,
+    k: u8,
+    rule: u8,
+    slots: &[u8; 64],
+    waiting: &mut [bool; 64],
+    counts: &mut [u8; 64],
+    hold: Hold,
+    line: Line,
+) -> Reply
+    requires { ⌜ formed ≡ wellFormed (stateOf (tableOf k rule (now slots)) (now waiting) (now counts) hold) ⌝ }
+    ensures { λ r. ⌜ Leaves (lineOutcome (stateOf (tableOf k rule (now (slots .entry))) (now (waiting .entry)) (now (counts .entry)) hold) line)
+        r (now (waiting .exit)) (now (counts .exit)) ⌝ }
+{
+    match line {
+        Line::Request(n) => request_in(formed, slots, waiting, counts, hold, n),
+        Line::Arbitrate => arbitrate_in(formed, k, rule, waiting, counts, hold),
+        Line::Release(n) => release_in(formed, slots, hold, n),
+        Line::Malformed => malformed(hold),
+    }
+}

@@ -1,0 +1,137 @@
+// The trace listing: lines of a trace in, lines of the listing out.
+ghost use Prim.Native.Nat.{_+_, _*_, min};
+ghost use mathlib.Core.Path.{_≡_};
+ghost use Rattle.rack.specs.Lent.{stateOf};
+ghost use Rattle.trace.specs.Line.{lineOf, textOf};
+ghost use Rattle.trace.specs.Listing.{Lists};
+use cards::Table;
+use events::answer_line;
+use rack::Hold;
+use rack::RackState;
+use reading::is_malformed;
+use reading::is_shaped;
+use reading::line_at;
+use writing::full_text;
+use writing::put_line;
+use writing::quiet_text;
+
+mod events;
+mod reading;
+mod writing;
+
+// What one line of the trace asks for.
+pub enum Line {
+    Request(u8),
+    Arbitrate,
+    Release(u8),
+    Malformed,
+}
+
+// What a run over a part of the trace leaves.
+pub struct Ran {
+    pub state: RackState,
+    pub read: usize,
+    pub written: usize,
+    pub ended: bool,
+}
+
+// The five bytes of a line.
+pub fn parse(letter: u8, gap: u8, tens: u8, ones: u8, end: u8) -> Line
+    ensures { λ r. ⌜ r ≡ lineOf letter gap tens ones end ⌝ }
+{
+    if !is_shaped(gap, tens, ones, end) {
+        return Line::Malformed;
+    }
+    let number = (tens - 48) * 10 + (ones - 48);
+    match letter {
+        b'Q' => Line::Request(number),
+        b'A' => {
+            if number == 0 {
+                return Line::Arbitrate;
+            }
+            Line::Malformed
+        }
+        b'R' => Line::Release(number),
+        _ => Line::Malformed,
+    }
+}
+
+// The 19 bytes of a line of the listing. Most lines name no winner, and the rest of such a line is zeros.
+pub fn text(a: u8, b: u8, c: u8, d: u8, answer: u8, winner: u8, lines: u16, stages: u8) -> [u8; 19]
+    ensures { λ r. ⌜ r ≡ textOf a b c d answer winner lines stages ⌝ }
+{
+    if (winner == 0) & (lines == 0) & (stages == 0) {
+        return quiet_text(a, b, c, d, answer);
+    }
+    full_text(a, b, c, d, answer, winner, lines, stages)
+}
+
+// The lesser of two numbers.
+fn least(x: usize, y: usize) -> usize
+    ensures { λ r. ⌜ r ≡ min x y ⌝ }
+{
+    if x < y {
+        return x;
+    }
+    y
+}
+
+// The state of these parts.
+fn state_of(table: Table, waiting: [bool; 64], counts: [u8; 64], hold: Hold) -> RackState
+    ensures { λ r. ⌜ r ≡ stateOf table waiting counts hold ⌝ }
+{
+    let bus = hold.bus;
+    RackState {
+        table,
+        waiting,
+        counts,
+        last: hold.last,
+        bus,
+    }
+}
+
+// Goes through the whole lines of the input while the output has room. The marks stay in their place from line to line.
+pub fn run(s: RackState, input: &[u8], output: &mut [u8]) -> Ran
+    ensures { λ r. ⌜ Lists s (now (input .entry)) (now (output .entry)) r (now (output .exit)) ⌝ }
+{
+    let lines = least(input.len() / 5, output.len() / 19);
+    let formed = rack::well_formed(s);
+    let table = s.table;
+    let k = table.k;
+    let rule = table.rule;
+    let slots = table.slots;
+    let mut waiting = s.waiting;
+    let mut counts = s.counts;
+    let bus = s.bus;
+    let mut hold = Hold { last: s.last, bus };
+    for n in 0..lines {
+        let line = line_at(input, n);
+        let r = answer_line(
+            formed,
+            k,
+            rule,
+            &slots,
+            &mut waiting,
+            &mut counts,
+            hold,
+            line,
+        );
+        put_line(input, n, line, r, output);
+        let next = r.hold;
+        hold = next;
+        if is_malformed(line) {
+            return Ran {
+                state: state_of(table, waiting, counts, hold),
+                read: 5 * n + 5,
+                written: 19 * n + 19,
+                ended: true,
+            };
+        }
+    }
+    Ran {
+        state: state_of(table, waiting, counts, hold),
+        read: 5 * lines,
+        written: 19 * lines,
+        ended: false,
+    }
+}
