@@ -1,4 +1,4 @@
-.PHONY: run test bench
+.PHONY: run test bench soak tables
 
 # The listing of the worked example.
 run: target/bin/racktrace
@@ -21,3 +21,11 @@ test:
 bench: target/bin/racktrace target/staticlib/liblaptop.a
 	bench/run
 	bench/stack
+
+# N times the numbers of the gate, with fresh seeds.
+soak: target/bin/racktrace target/staticlib/liblaptop.a
+	compare/soak $(N)
+
+# All rows of the published tables.
+tables: target/bin/racktrace
+	compare/tables full

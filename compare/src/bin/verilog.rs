@@ -1,0 +1,163 @@
+//! Holds the product's settling against cards modelled in Verilog on wired-OR nets.
+//!
+//! Icarus Verilog resolves the nets, so what the product is held against is not our code.
+
+#[path = "../verilog/lists.rs"]
+mod lists;
+#[path = "../verilog/model.rs"]
+mod model;
+
+use compare::entries;
+use compare::judge::named_settlings::KNOWN;
+use compare::report::Report;
+use compare::rng::Rng;
+use compare::seen_from_c;
+use compare::settling::MOST_LINES;
+use model::Stages;
+use std::process::ExitCode;
+
+const PROGRAM: &str = "compare/verilog/run";
+const USAGE: &str = "compare/verilog/run [--seed S] [--settlings N]
+compare/verilog/run --settle M NUMBERS    as in 4 2,5,9,10 or 1 none";
+
+struct Options {
+    seed: u64,
+    settlings: u64,
+    one: Option<(u32, Vec<u16>)>,
+}
+
+fn number<T: std::str::FromStr>(word: Option<&str>) -> Result<T, String> {
+    let word = word.ok_or("a number is missing")?;
+    word.parse().map_err(|_| format!("{word} is no number"))
+}
+
+fn list(word: Option<&str>) -> Result<Vec<u16>, String> {
+    match word {
+        Some("none") => Ok(Vec::new()),
+        Some(numbers) => numbers.split(',').map(|one| number(Some(one))).collect(),
+        None => Err("the numbers are missing".to_string()),
+    }
+}
+
+fn options(words: &[String]) -> Result<Options, String> {
+    let mut options = Options {
+        seed: 1,
+        settlings: 2400,
+        one: None,
+    };
+    let mut words = words.iter().map(String::as_str);
+    while let Some(word) = words.next() {
+        match word {
+            "--seed" => options.seed = number(words.next())?,
+            "--settlings" => options.settlings = number(words.next())?,
+            "--settle" => options.one = Some((number(words.next())?, list(words.next())?)),
+            _ => return Err(format!("{word} is no option")),
+        }
+    }
+    Ok(options)
+}
+
+fn settle_in_product(m: u32, numbers: &[u16]) -> Result<Stages, String> {
+    let places = m as usize + 1;
+    let mut buffer = vec![0; 2 * places];
+    let t = entries::settle(m, &seen_from_c::bytes(numbers), &mut buffer) as usize;
+    if t >= places {
+        return Err(format!("{numbers:?}: the product answered {t}"));
+    }
+    let mut stages = seen_from_c::numbers(&buffer);
+    stages.truncate(t + 1);
+    Ok(stages)
+}
+
+/// Both must show the same lines, stage by stage, and so the same t.
+fn hold(numbers: &[u16], who: &str, shown: &[u16], expected: &[u16]) -> Result<(), String> {
+    if shown == expected {
+        return Ok(());
+    }
+    let (t, expected_t) = (shown.len() - 1, expected.len() - 1);
+    Err(format!(
+        "{numbers:?}: {who} shows {shown:?}, t = {t}; expected {expected:?}, t = {expected_t}"
+    ))
+}
+
+fn repeat(m: u32, numbers: &[u16]) -> String {
+    let words: Vec<String> = numbers.iter().map(u16::to_string).collect();
+    let list = match words.len() {
+        0 => "none".to_string(),
+        _ => words.join(","),
+    };
+    format!("{PROGRAM} --settle {m} {list}")
+}
+
+/// Here document 01 gives the lines, and both sides must show them.
+fn test_known(report: &mut Report) {
+    for known in &KNOWN {
+        let (m, numbers) = (known.m, known.competing);
+        let outcome = model::settle(m, &[numbers.to_vec()])
+            .and_then(|answers| hold(numbers, "Verilog", &answers[0], known.lines))
+            .and_then(|()| {
+                hold(
+                    numbers,
+                    "the product",
+                    &settle_in_product(m, numbers)?,
+                    known.lines,
+                )
+            });
+        report.test(known.name, outcome, &repeat(m, numbers));
+    }
+    println!("{} known settlings", KNOWN.len());
+}
+
+/// One test: all lists of one m. The first difference is shown.
+fn test_lists(report: &mut Report, m: u32, lists: &[Vec<u16>]) {
+    let name = format!("m = {m}");
+    let answers = match model::settle(m, lists) {
+        Ok(answers) => answers,
+        Err(what) => return report.test(&name, Err(what), PROGRAM),
+    };
+    for (numbers, verilog) in lists.iter().zip(&answers) {
+        let outcome = settle_in_product(m, numbers)
+            .and_then(|product| hold(numbers, "the product", &product, verilog));
+        if outcome.is_err() {
+            return report.test(&name, outcome, &repeat(m, numbers));
+        }
+    }
+    let longest = answers.iter().map(|stages| stages.len() - 1).max();
+    let longest = longest.unwrap_or(0);
+    println!("m = {m}: {} settlings, greatest t {longest}", lists.len());
+    report.test(&name, Ok(()), PROGRAM);
+}
+
+fn test_every_m(report: &mut Report, seed: u64, settlings: u64) {
+    let mut rng = Rng::new(seed);
+    for m in 1..=MOST_LINES {
+        let mut lists = lists::extreme_lists(m);
+        let random = settlings.div_ceil(u64::from(MOST_LINES));
+        lists.extend((0..random).map(|_| lists::random_list(&mut rng, m)));
+        test_lists(report, m, &lists);
+    }
+}
+
+fn run(options: Options) -> ExitCode {
+    let mut report = Report::new();
+    match options.one {
+        Some((m, numbers)) => test_lists(&mut report, m, &[numbers]),
+        None => {
+            println!("seed {}", options.seed);
+            test_known(&mut report);
+            test_every_m(&mut report, options.seed, options.settlings);
+        }
+    }
+    report.finish()
+}
+
+fn main() -> ExitCode {
+    let words: Vec<String> = std::env::args().skip(1).collect();
+    match options(&words) {
+        Ok(options) => run(options),
+        Err(what) => {
+            eprintln!("{what}\n{USAGE}");
+            ExitCode::FAILURE
+        }
+    }
+}

@@ -1,0 +1,51 @@
+//! The product held against the reference, on named cases and on generated ones.
+
+pub mod boundaries;
+pub mod conversation;
+pub mod damage;
+pub mod draft;
+pub mod exhaustive;
+pub mod expect;
+pub mod guarded;
+pub mod kind;
+pub mod met;
+pub mod named_settlings;
+pub mod named_tables;
+pub mod named_traces;
+pub mod settlings;
+pub mod tables;
+pub mod trace_maker;
+pub mod traces;
+pub mod well_formed;
+
+use kind::Group;
+
+/// How many generated cases of each sort.
+pub struct Sizes {
+    pub settlings: u64,
+    pub tables: u64,
+    pub traces: u64,
+}
+
+impl Sizes {
+    pub fn times(self, times: u64) -> Sizes {
+        Sizes {
+            settlings: self.settlings * times,
+            tables: self.tables * times,
+            traces: self.traces * times,
+        }
+    }
+}
+
+pub fn groups(sizes: &Sizes) -> Vec<Group> {
+    vec![
+        Group::once("known settlings", named_settlings::kinds()),
+        Group::once("known tables", named_tables::kinds()),
+        Group::once("known traces", named_traces::kinds()),
+        Group::once("well-formed states", well_formed::kinds()),
+        Group::once("exhaustive", exhaustive::kinds()),
+        Group::of("settlings", sizes.settlings, settlings::kinds()),
+        Group::of("tables", sizes.tables, tables::kinds()),
+        Group::of("traces", sizes.traces, traces::kinds()),
+    ]
+}

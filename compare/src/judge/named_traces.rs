@@ -1,0 +1,162 @@
+//! The worked listing and the traces that the rules speak of.
+
+use super::conversation::converse;
+use super::expect::expect;
+use super::kind::Kind;
+use super::met::Met;
+use super::named_tables::{file_with, WORKED_TABLE};
+use super::traces::{hold, same};
+use crate::listing::{self, TRACE_LINE};
+use crate::racktrace;
+
+const WORKED_LISTING: &str = "\
+Q 02 00 00 0000 00
+Q 05 00 00 0000 00
+Q 06 00 00 0000 00
+A 00 00 06 0006 02
+Q 06 00 00 0000 00
+A 00 13 00 0000 00
+R 05 15 00 0000 00
+R 06 00 00 0000 00
+A 00 00 05 0013 03
+R 05 00 00 0000 00
+A 00 00 02 0010 03
+R 02 00 00 0000 00
+A 00 00 06 0006 01
+R 06 00 00 0000 00
+A 00 14 00 0000 00
+";
+
+/// P8: rule 0, cards 2, 5 and 6.
+const P8_LISTING: &str = "\
+Q 02 00 00 0000 00
+Q 05 00 00 0000 00
+Q 06 00 00 0000 00
+A 00 00 06 0006 02
+";
+
+/// P10: rule 2, card 2 has lost twice and card 6 once.
+const P10_LISTING: &str = "\
+Q 02 00 00 0000 00
+Q 05 00 00 0000 00
+Q 07 00 00 0000 00
+A 00 00 07 0007 01
+R 07 00 00 0000 00
+Q 06 00 00 0000 00
+A 00 00 05 0013 03
+R 05 00 00 0000 00
+A 00 00 02 0018 03
+";
+
+/// The trace of a listing is the first four characters of each line.
+fn trace_of(listing: &str) -> Vec<u8> {
+    let lines = listing.lines().map(|line| format!("{}\n", &line[..4]));
+    lines.collect::<String>().into_bytes()
+}
+
+/// A listing that is written out here, by the reference and by the product.
+fn listed(name: &str, file: Vec<u8>, stated: &'static str) -> [Kind; 2] {
+    let for_product = file.clone();
+    [
+        Kind::named(format!("{name}-by-the-reference"), move |_| {
+            let listing = listing::listing(Some(&file), &trace_of(stated));
+            same(&listing, stated.as_bytes())
+        }),
+        Kind::named(format!("{name}-by-the-product"), move |_| {
+            let listing = racktrace::run(Some(&for_product), &trace_of(stated))?;
+            same(&listing, stated.as_bytes())
+        }),
+    ]
+}
+
+/// A trace for the worked table, with the listing's last line as the rules state it.
+fn ending(name: &str, trace: &'static str, stated: &'static str) -> Kind {
+    Kind::named(name, move |met| {
+        hold(Some(&WORKED_TABLE), trace.as_bytes(), met)?;
+        let listing = listing::listing(Some(&WORKED_TABLE), trace.as_bytes());
+        let listing = String::from_utf8_lossy(&listing).into_owned();
+        expect(listing.lines().last().unwrap_or(""), stated)
+    })
+}
+
+const MALFORMED: &str = "---- 18 00 0000 00";
+
+fn malformed() -> Vec<Kind> {
+    [
+        ("line-ended-by-cr-lf", "Q 02\r\nQ 05\r\n"),
+        ("blank-line", "Q 02\n\nQ 05\n"),
+        ("lower-case-letter", "Q 02\nq 05\n"),
+        ("letter-u", "Q 02\nU 05\n"),
+        ("tab-for-a-space", "Q 02\nQ\t05\n"),
+        ("arbitrate-01", "Q 02\nA 01\n"),
+        ("arbitrate-10", "Q 02\nA 10\n"),
+        ("line-without-newline", "Q 02\nQ 05"),
+        ("one-byte", "Q"),
+        ("listing-line-as-trace", "Q 02 00 00 0000 00\n"),
+    ]
+    .map(|(name, trace)| ending(name, trace, MALFORMED))
+    .into()
+}
+
+fn slips() -> Vec<Kind> {
+    vec![
+        ending("empty-trace", "", ""),
+        ending(
+            "holder-asks-again",
+            "Q 02\nA 00\nQ 02\n",
+            "Q 02 00 00 0000 00",
+        ),
+        ending("asks-twice", "Q 02\nQ 02\n", "Q 02 12 00 0000 00"),
+        ending(
+            "last-winner-is-not-less-than-itself",
+            "Q 05\nA 00\nQ 05\nQ 02\nR 05\nA 00\n",
+            "A 00 00 02 0010 03",
+        ),
+        ending(
+            "last-winner-stays-after-release",
+            "Q 06\nA 00\nR 06\nQ 02\nQ 05\nA 00\n",
+            "A 00 00 05 0013 03",
+        ),
+        ending("release-on-a-free-bus", "R 02\n", "R 02 15 00 0000 00"),
+        ending(
+            "release-of-no-card-on-a-held-bus",
+            "Q 02\nA 00\nR 03\n",
+            "R 03 11 00 0000 00",
+        ),
+    ]
+}
+
+/// Numbers 64 to 99 are well formed and in no table.
+fn every_number(met: &mut Met) -> Result<(), String> {
+    let lines =
+        (0..100).flat_map(|number| ["Q", "R"].map(|letter| format!("{letter} {number:02}\n")));
+    let trace: String = lines.collect();
+    hold(Some(&WORKED_TABLE), trace.as_bytes(), met)
+}
+
+fn unreadable_table() -> Result<(), String> {
+    let printed = racktrace::run_with_unreadable_table(b"Q 02\n")?;
+    same(&printed, b"tab. 01 00 0000 00\n")
+}
+
+pub fn kinds() -> Vec<Kind> {
+    let mut kinds = Vec::new();
+    kinds.extend(listed(
+        "worked-listing",
+        WORKED_TABLE.to_vec(),
+        WORKED_LISTING,
+    ));
+    let cards = [(2, 1), (5, 2), (6, 3), (7, 4)];
+    kinds.extend(listed("P8-listing", file_with(3, 0, &cards), P8_LISTING));
+    kinds.extend(listed("P10-listing", file_with(3, 2, &cards), P10_LISTING));
+    kinds.push(Kind::named("worked-listing-line-by-line", |met| {
+        converse(&WORKED_TABLE, &trace_of(WORKED_LISTING), || TRACE_LINE, met)
+    }));
+    kinds.push(Kind::named("every-number-after-q-and-r", every_number));
+    kinds.push(Kind::named("table-that-cannot-be-read", |_| {
+        unreadable_table()
+    }));
+    kinds.extend(malformed());
+    kinds.extend(slips());
+    kinds
+}

@@ -1,0 +1,197 @@
+//! Generated settlings through the C entry.
+
+use super::guarded::agreed;
+use super::kind::{dashed, Kind};
+use super::met::Met;
+use crate::entries;
+use crate::rng::Rng;
+use crate::seen_from_c;
+
+struct Case {
+    m: u32,
+    numbers: Vec<u16>,
+    /// Half a number at the end of the list, to be passed over.
+    odd_byte: bool,
+    buffer: usize,
+}
+
+fn greatest(m: u32) -> u16 {
+    ((1u32 << m) - 1) as u16
+}
+
+/// A number within m lines, often at an edge.
+fn number(m: u32, rng: &mut Rng) -> u16 {
+    let most = greatest(m);
+    match rng.below(8) {
+        0 => 0,
+        1 => most,
+        _ => rng.between(0, u64::from(most)) as u16,
+    }
+}
+
+fn list_length(rng: &mut Rng) -> u64 {
+    match rng.below(8) {
+        0 => *rng.pick(&[0, 1, 63, 64]),
+        1..=4 => rng.between(0, 8),
+        _ => rng.between(0, 64),
+    }
+}
+
+fn sound(rng: &mut Rng) -> Case {
+    let m = rng.between(1, 12) as u32;
+    let numbers = (0..list_length(rng)).map(|_| number(m, rng)).collect();
+    let needed = 2 * (m as usize + 1);
+    Case {
+        m,
+        numbers,
+        odd_byte: rng.chance(1, 4),
+        buffer: needed + *rng.pick(&[0, 1, 2, 3, 40]),
+    }
+}
+
+/// Few different numbers, many times each.
+fn repeated(rng: &mut Rng) -> Case {
+    let mut case = sound(rng);
+    let few: Vec<u16> = (0..rng.between(1, 3))
+        .map(|_| number(case.m, rng))
+        .collect();
+    case.numbers = (0..list_length(rng)).map(|_| *rng.pick(&few)).collect();
+    case
+}
+
+/// The others follow the greatest number down to one of its ones, have a 0 there and ones below.
+/// Each makes the greatest number wait for a stage; as many as m stages come about.
+fn deep(rng: &mut Rng) -> Case {
+    let mut case = sound(rng);
+    let alternating = 0b1010_1010_1010 >> (12 - case.m);
+    let any = number(case.m, rng) | 1 << (case.m - 1);
+    let greatest = *rng.pick(&[alternating, any]);
+    let ones: Vec<u32> = (0..case.m).filter(|j| greatest >> j & 1 == 1).collect();
+    let parting_at = |one: u32| (greatest >> one << one) - 1;
+    case.numbers = (0..rng.between(1, 14))
+        .map(|_| parting_at(*rng.pick(&ones)))
+        .collect();
+    case.numbers.push(greatest);
+    case
+}
+
+/// Anything at all, near the edges.
+fn noisy(rng: &mut Rng) -> Case {
+    let m = rng.between(0, 16) as u32;
+    let edge = 1u32 << m;
+    let edges = [0, edge - 1, edge, edge + 1, 65535, rng.below(65536) as u32];
+    let length = rng.between(0, 70);
+    let wild = rng.chance(1, 4);
+    let numbers = (0..length)
+        .map(|_| {
+            if wild {
+                *rng.pick(&edges)
+            } else {
+                rng.below(edge.into()) as u32
+            }
+        })
+        .map(|number| number.min(65535) as u16)
+        .collect();
+    let around = 2 * (u64::from(m) + 1);
+    Case {
+        m,
+        numbers,
+        odd_byte: rng.chance(1, 2),
+        buffer: rng.between(around - 2, around + 3) as usize,
+    }
+}
+
+/// Puts one fault into a case; a fault of a greater number has to come first.
+fn spoil(case: &mut Case, refusal: u32, rng: &mut Rng) {
+    match refusal {
+        24 => case.buffer = rng.below(2 * (u64::from(case.m) + 1)) as usize,
+        23 => {
+            let edge = 1u64 << case.m;
+            let any = rng.between(edge, 65535);
+            let over = *rng.pick(&[edge, 65535, any]) as u16;
+            if case.numbers.len() < 64 {
+                case.numbers.push(0);
+            }
+            let at = rng.below(case.numbers.len() as u64) as usize;
+            case.numbers[at] = over;
+        }
+        22 => {
+            let length = rng.between(65, 70) as usize;
+            while case.numbers.len() < length {
+                case.numbers.push(number(case.m, rng));
+            }
+        }
+        21 => case.m = *rng.pick(&[0, 13, 14, 15, 16, 17, 256 + 4, 1 << 16, 1 << 31, u32::MAX]),
+        _ => panic!("settling has no refusal {refusal}"),
+    }
+}
+
+fn hold(case: &Case, rng: &mut Rng, met: &mut Met) -> Result<u32, String> {
+    let mut competing = seen_from_c::bytes(&case.numbers);
+    if case.odd_byte {
+        competing.push(rng.byte());
+    }
+    let (answer, _) = agreed(
+        case.buffer,
+        rng,
+        |buffer| entries::settle(case.m, &competing, buffer),
+        |buffer| seen_from_c::settle(case.m, &competing, buffer),
+    )
+    .map_err(|what| format!("m {}, numbers {:?}: {what}", case.m, case.numbers))?;
+    met.meet(answer.saturating_sub(100));
+    Ok(answer)
+}
+
+fn accepted(make: fn(&mut Rng) -> Case) -> impl Fn(&mut Rng, &mut Met) -> Result<(), String> {
+    move |rng, met| {
+        let case = make(rng);
+        match hold(&case, rng, met)? {
+            answer if answer < 100 => Ok(()),
+            answer => Err(format!("a sound case gives {answer}")),
+        }
+    }
+}
+
+/// The faults together give the refusal of the least number.
+fn refused(faults: Vec<u32>) -> impl Fn(&mut Rng, &mut Met) -> Result<(), String> {
+    move |rng, met| {
+        let mut case = sound(rng);
+        for &fault in faults.iter().rev() {
+            spoil(&mut case, fault, rng);
+        }
+        match hold(&case, rng, met)? {
+            answer if answer == 100 + faults[0] => Ok(()),
+            answer => Err(format!("faults {faults:?} give {answer}")),
+        }
+    }
+}
+
+/// Every choice of one or more of these numbers, rising.
+fn choices(numbers: &[u32]) -> Vec<Vec<u32>> {
+    (1u32..1 << numbers.len())
+        .map(|set| {
+            let chosen = |i: &usize| set >> i & 1 == 1;
+            (0..numbers.len())
+                .filter(chosen)
+                .map(|i| numbers[i])
+                .collect()
+        })
+        .collect()
+}
+
+pub fn kinds() -> Vec<Kind> {
+    let mut kinds = vec![
+        Kind::new("settling-sound", 60, accepted(sound)),
+        Kind::new("settling-repeated", 20, accepted(repeated)),
+        Kind::new("settling-deep", 20, accepted(deep)),
+        Kind::new("settling-noisy", 40, |rng, met| {
+            let case = noisy(rng);
+            hold(&case, rng, met).map(|_| ())
+        }),
+    ];
+    for faults in choices(&[21, 22, 23, 24]) {
+        let name = format!("settling-refused-{}", dashed(&faults));
+        kinds.push(Kind::new(name, 5, refused(faults)));
+    }
+    kinds
+}

@@ -1,0 +1,163 @@
+//! Makes traces. The reference's state steers them, so that they go on meaning something.
+
+use super::draft::{Draft, Shape};
+use crate::listing::event;
+use crate::rack::{Bus, Rack};
+use crate::rng::Rng;
+use crate::table::greatest_number;
+
+/// A sound table file with a given rule.
+pub fn table_file(rule: u8, rng: &mut Rng) -> Vec<u8> {
+    let mut shape = Shape::sound(rng);
+    shape.rule = rule;
+    Draft::of(shape, rng).file(rng)
+}
+
+/// As many cards as there can be: 63 at k = 6.
+pub fn full_table_file(rule: u8, rng: &mut Rng) -> Vec<u8> {
+    let mut shape = Shape::sound(rng);
+    shape.rule = rule;
+    shape.k = 6;
+    shape.cards = usize::from(greatest_number(6));
+    Draft::of(shape, rng).file(rng)
+}
+
+pub struct Maker {
+    rack: Rack,
+    cards: Vec<u8>,
+    trace: Vec<u8>,
+}
+
+impl Maker {
+    pub fn new(file: &[u8]) -> Maker {
+        let (rack, _) = Rack::load(file);
+        Maker {
+            cards: rack.table.numbers(),
+            rack,
+            trace: Vec::new(),
+        }
+    }
+
+    pub fn trace(self) -> Vec<u8> {
+        self.trace
+    }
+
+    pub fn lines(&self) -> usize {
+        self.trace.len() / 5
+    }
+
+    pub fn push(&mut self, letter: char, number: u8) {
+        let line = format!("{letter} {number:02}\n");
+        self.trace.extend(line.as_bytes());
+        let event = event(line.as_bytes()).expect("a made line is well formed");
+        if let Ok((next, _)) = self.rack.after(event) {
+            self.rack = next;
+        }
+    }
+
+    fn holder(&self) -> Option<u8> {
+        match self.rack.bus {
+            Bus::Free => None,
+            Bus::Held(card) => Some(card),
+        }
+    }
+
+    /// Any well-formed line, sensible or not.
+    pub fn anything(&mut self, rng: &mut Rng) {
+        let card = if self.cards.is_empty() {
+            1
+        } else {
+            *rng.pick(&self.cards)
+        };
+        let any = rng.below(100) as u8;
+        let number = *rng.pick(&[card, card, card, any]);
+        match rng.below(3) {
+            0 => self.push('Q', number),
+            1 => self.push('A', 0),
+            _ => self.push('R', number),
+        }
+    }
+
+    /// A line that is done more often than not.
+    pub fn sensible(&mut self, rng: &mut Rng) {
+        let card = *rng.pick(&self.cards);
+        match self.holder() {
+            Some(holder) if rng.chance(1, 2) => self.push('R', holder),
+            None if rng.chance(1, 2) => self.push('A', 0),
+            _ => self.push('Q', card),
+        }
+    }
+
+    /// Every card asks, in any order.
+    pub fn all_ask(&mut self, rng: &mut Rng) {
+        let mut cards = self.cards.clone();
+        rng.shuffle(&mut cards);
+        for card in cards {
+            self.push('Q', card);
+        }
+    }
+
+    /// One grant. The winner asks again, while it holds the bus or after.
+    pub fn grant_and_ask_again(&mut self, while_holding: bool) {
+        self.push('A', 0);
+        let winner = self.rack.last_winner;
+        if while_holding {
+            self.push('Q', winner);
+            self.push('R', winner);
+        } else {
+            self.push('R', winner);
+            self.push('Q', winner);
+        }
+    }
+}
+
+/// Sensible lines with some others among them.
+pub fn mixed(file: &[u8], lines: usize, rng: &mut Rng) -> Vec<u8> {
+    let mut maker = Maker::new(file);
+    while maker.lines() < lines {
+        if rng.chance(4, 5) {
+            maker.sensible(rng);
+        } else {
+            maker.anything(rng);
+        }
+    }
+    maker.trace()
+}
+
+pub fn blind(file: &[u8], lines: usize, rng: &mut Rng) -> Vec<u8> {
+    let mut maker = Maker::new(file);
+    while maker.lines() < lines {
+        maker.anything(rng);
+    }
+    maker.trace()
+}
+
+/// All cards always ask.
+pub fn saturated(file: &[u8], lines: usize, rng: &mut Rng) -> Vec<u8> {
+    let mut maker = Maker::new(file);
+    maker.all_ask(rng);
+    while maker.lines() < lines {
+        let while_holding = rng.chance(1, 2);
+        maker.grant_and_ask_again(while_holding);
+    }
+    maker.trace()
+}
+
+/// Few others ask, so that the last winner meets itself again and again.
+pub fn asks_again(file: &[u8], lines: usize, rng: &mut Rng) -> Vec<u8> {
+    let mut maker = Maker::new(file);
+    maker.sensible(rng);
+    while maker.lines() < lines {
+        if rng.chance(1, 3) {
+            maker.sensible(rng);
+        } else if maker.holder().is_none() && !maker.rack.waiting_cards().is_empty() {
+            let while_holding = rng.chance(1, 2);
+            maker.grant_and_ask_again(while_holding);
+        } else if let Some(holder) = maker.holder() {
+            maker.push('R', holder);
+        } else {
+            maker.sensible(rng);
+        }
+    }
+    maker.trace()
+}

@@ -1,0 +1,175 @@
+//! The rack's state and its events.
+
+use crate::rules::{rule, Rule};
+use crate::settling;
+use crate::table::{self, Table};
+
+#[derive(Clone, Copy, Debug, PartialEq, Eq)]
+pub enum Bus {
+    Free,
+    Held(u8),
+}
+
+#[derive(Clone, Copy, Debug, PartialEq, Eq)]
+pub struct Rack {
+    pub table: Table,
+    pub waiting: [bool; 64],
+    pub counts: [u8; 64],
+    /// 0 if none yet.
+    pub last_winner: u8,
+    pub bus: Bus,
+}
+
+#[derive(Clone, Copy, Debug, PartialEq, Eq)]
+pub enum Event {
+    Request(u8),
+    Arbitrate,
+    Release(u8),
+}
+
+/// What an event reports when it is done. A refused event reports zeros beside its number.
+#[derive(Clone, Copy, Debug, Default, PartialEq, Eq)]
+pub struct Outcome {
+    pub winner: u8,
+    pub lines: u16,
+    pub stages: u8,
+}
+
+impl Rack {
+    pub fn fresh(table: Table) -> Rack {
+        Rack {
+            table,
+            waiting: [false; 64],
+            counts: [0; 64],
+            last_winner: 0,
+            bus: Bus::Free,
+        }
+    }
+
+    /// A refused load gives the all-zero state, which is not well formed.
+    pub fn load(file: &[u8]) -> (Rack, u32) {
+        match table::load(file) {
+            Ok(table) => (Rack::fresh(table), 0),
+            Err(refusal) => (Rack::fresh(Table::NONE), refusal),
+        }
+    }
+
+    pub fn is_well_formed(&self) -> bool {
+        self.table.is_sound()
+            && (0..64).all(|card| !self.waits(card) || self.table.has(card))
+            && (self.last_winner == 0 || self.table.has(self.last_winner))
+            && self.holder_is_well_formed()
+            && (0..64).all(|card| self.count_is_well_formed(card))
+    }
+
+    fn holder_is_well_formed(&self) -> bool {
+        match self.bus {
+            Bus::Free => true,
+            Bus::Held(card) => self.table.has(card) && card == self.last_winner,
+        }
+    }
+
+    fn count_is_well_formed(&self, card: u8) -> bool {
+        let may_count = self.waits(card) && self.table.has(card) && rule(self.table.rule).counts;
+        let most = if may_count {
+            table::greatest_number(self.table.k)
+        } else {
+            0
+        };
+        self.counts[usize::from(card)] <= most
+    }
+
+    pub fn waits(&self, card: u8) -> bool {
+        self.waiting[usize::from(card)]
+    }
+
+    pub fn waiting_cards(&self) -> Vec<u8> {
+        (0..64).filter(|&card| self.waits(card)).collect()
+    }
+
+    /// The state after an event with its outcome, or the refusal, which leaves the state as it is.
+    pub fn after(&self, event: Event) -> Result<(Rack, Outcome), u32> {
+        if !self.is_well_formed() {
+            return Err(17);
+        }
+        match event {
+            Event::Request(card) => self.request(card),
+            Event::Arbitrate => self.arbitrate(),
+            Event::Release(card) => self.release(card),
+        }
+    }
+
+    fn request(&self, card: u8) -> Result<(Rack, Outcome), u32> {
+        if !self.table.has(card) {
+            return Err(11);
+        }
+        if self.waits(card) {
+            return Err(12);
+        }
+        let mut next = *self;
+        next.waiting[usize::from(card)] = true;
+        next.counts[usize::from(card)] = 0;
+        Ok((next, Outcome::default()))
+    }
+
+    fn release(&self, card: u8) -> Result<(Rack, Outcome), u32> {
+        if !self.table.has(card) {
+            return Err(11);
+        }
+        if self.bus != Bus::Held(card) {
+            return Err(15);
+        }
+        let mut next = *self;
+        next.bus = Bus::Free;
+        Ok((next, Outcome::default()))
+    }
+
+    fn arbitrate(&self) -> Result<(Rack, Outcome), u32> {
+        if self.bus != Bus::Free {
+            return Err(13);
+        }
+        let competitors = self.waiting_cards();
+        if competitors.is_empty() {
+            return Err(14);
+        }
+        let rule = rule(self.table.rule);
+        let outcome = self.settle(&rule, &competitors);
+        let next = self.grant(&rule, outcome.winner)?;
+        Ok((next, outcome))
+    }
+
+    fn settle(&self, rule: &Rule, competitors: &[u8]) -> Outcome {
+        let m = (rule.lines)(self.table.k);
+        let numbers: Vec<u16> = competitors
+            .iter()
+            .map(|&card| (rule.number)(self, card))
+            .collect();
+        let stages = settling::settle(m, &numbers, m as usize + 1)
+            .expect("a well-formed state competes within the lines");
+        let lines = stages[stages.len() - 1];
+        Outcome {
+            winner: (lines % (1 << self.table.k)) as u8,
+            lines,
+            stages: (stages.len() - 1) as u8,
+        }
+    }
+
+    fn grant(&self, rule: &Rule, winner: u8) -> Result<Rack, u32> {
+        let mut next = *self;
+        next.waiting[usize::from(winner)] = false;
+        next.counts[usize::from(winner)] = 0;
+        next.bus = Bus::Held(winner);
+        next.last_winner = winner;
+        if rule.counts {
+            let full = table::greatest_number(self.table.k);
+            for loser in next.waiting_cards() {
+                let count = &mut next.counts[usize::from(loser)];
+                if *count == full {
+                    return Err(16);
+                }
+                *count += 1;
+            }
+        }
+        Ok(next)
+    }
+}

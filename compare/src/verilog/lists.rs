@@ -1,0 +1,50 @@
+//! The lists of competing numbers that are settled.
+
+use compare::rng::Rng;
+use compare::settling::MOST_COMPETITORS;
+
+/// The lists where a slip would show first: nobody, the number 0, repeats, maxima, a full rack,
+/// the longest settling.
+pub fn extreme_lists(m: u32) -> Vec<Vec<u16>> {
+    let greatest = (1 << m) - 1;
+    let full_rack = 0..MOST_COMPETITORS as u16;
+    vec![
+        vec![],
+        vec![0],
+        vec![0, 0],
+        vec![greatest],
+        vec![0, greatest],
+        vec![greatest, greatest - 1],
+        vec![greatest; MOST_COMPETITORS],
+        vec![0; MOST_COMPETITORS],
+        full_rack.map(|card| card.min(greatest)).collect(),
+        (0..m).map(|j| 1 << j).collect(),
+        slowest_list(m),
+    ]
+}
+
+/// A list that takes m stages. The winner is 1010...; each rival copies it down to one of its
+/// ones, has 01 there in place of 10, and so shows up again when the ones above have settled.
+fn slowest_list(m: u32) -> Vec<u16> {
+    let ones: Vec<u32> = (0..m).rev().step_by(2).collect();
+    let winner: u16 = ones.iter().map(|one| 1 << one).sum();
+    let rivals = ones.iter().map(|one| {
+        let copied = winner >> (one + 1) << (one + 1);
+        copied | (1 << one) >> 1
+    });
+    rivals.chain([winner]).collect()
+}
+
+/// Few cards settle longest and many cards fill the rack, so every size gets its share. Numbers
+/// that agree in their high bits keep one another in play for more stages than unrelated ones.
+pub fn random_list(rng: &mut Rng, m: u32) -> Vec<u16> {
+    let most = *rng.pick(&[3, 6, 12, MOST_COMPETITORS as u64]);
+    let count = rng.below(most + 1);
+    let shared = rng.below(1 << m);
+    (0..count)
+        .map(|_| {
+            let free_bits = rng.below(u64::from(m) + 1);
+            (shared ^ rng.below(1 << free_bits)) as u16
+        })
+        .collect()
+}
