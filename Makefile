@@ -1,8 +1,10 @@
 .PHONY: run test bench soak tables
 
-# The listing of the worked example.
-run: target/bin/racktrace
+# The worked example: the listing, and what it says of slot 3.
+run: target/bin/racktrace target/tools/racklap
 	@cd examples/three-cards && ../../target/bin/racktrace <trace
+	@echo
+	@cd examples/three-cards && ../../target/bin/racktrace <trace | ../../target/tools/racklap why 3 rack.tab
 
 # The proved program; rt proves again only what has changed.
 target/bin/racktrace: crates.txt $(shell find crates -type f)
@@ -29,3 +31,5 @@ soak: target/bin/racktrace target/staticlib/liblaptop.a
 # All rows of the published tables.
 tables: target/bin/racktrace
 	compare/tables full
+
+include laptop/laptop.mk

@@ -1,0 +1,94 @@
+#include "report.h"
+
+#include "during.h"
+#include "promise.h"
+#include "waits.h"
+
+static void print_heading(const struct inquiry *inquiry)
+{
+    const struct table *table = &inquiry->table;
+    print_card(stdout, table, inquiry->number);
+    printf(" in a rack of %zu, rule %u (%s)\n\n", table->cards, table->rule_number,
+           table->rule->name);
+}
+
+static size_t print_waits(const struct inquiry *inquiry)
+{
+    size_t count = 0;
+    struct wait wait = {.asked = 0};
+    while (next_wait(&inquiry->listing, inquiry->number, &wait)) {
+        count++;
+        printf("wait %zu: asked at line %zu, ", count, wait.asked);
+        if (wait.granted != 0) {
+            printf("granted at line %zu, ", wait.granted);
+        } else {
+            printf("not granted by the end, ");
+        }
+        print_grants(stdout, wait.others);
+        putchar('\n');
+        print_during(inquiry, &wait);
+    }
+    return count;
+}
+
+/* Prints the cards that were granted while this one waited, the most frequent first. */
+static void print_went_first(const struct inquiry *inquiry)
+{
+    size_t sums[NUMBERS] = {0};
+    struct wait wait = {.asked = 0};
+    while (next_wait(&inquiry->listing, inquiry->number, &wait)) {
+        add_others(&inquiry->listing, &wait, sums);
+    }
+    for (;;) {
+        unsigned most = 0;
+        for (unsigned number = 1; number < NUMBERS; number++) {
+            most = sums[number] > sums[most] ? number : most;
+        }
+        if (most == 0) {
+            return;
+        }
+        fputs("Went first: ", stdout);
+        print_card(stdout, &inquiry->table, most);
+        putchar(' ');
+        print_times(stdout, sums[most]);
+        putchar('\n');
+        sums[most] = 0;
+    }
+}
+
+static void print_longest(const struct inquiry *inquiry)
+{
+    struct wait longest = longest_wait(&inquiry->listing, inquiry->number);
+    fputs("Longest wait: ", stdout);
+    print_grants(stdout, longest.others);
+    printf(", asked at line %zu.\n", longest.asked);
+}
+
+/* What the rule promises, whether the listing kept it, and the answer if it did. */
+static bool print_verdict(const struct inquiry *inquiry)
+{
+    print_promise(stdout, inquiry);
+    bool broken = print_broken(stdout, inquiry);
+    if (!broken) {
+        fputs("Answer: ", stdout);
+        print_answer(stdout, inquiry);
+        putchar('\n');
+    }
+    return broken;
+}
+
+bool print_report(const struct inquiry *inquiry)
+{
+    print_heading(inquiry);
+    if (print_waits(inquiry) == 0) {
+        printf("slot %u never waits in this listing\n\n", inquiry->slot);
+    } else {
+        putchar('\n');
+        print_longest(inquiry);
+    }
+    print_ending(stdout, &inquiry->listing);
+    if (!has_bound(&inquiry->table)) {
+        print_went_first(inquiry);
+    }
+    return print_verdict(inquiry);
+}

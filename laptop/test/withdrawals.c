@@ -1,0 +1,99 @@
+/* Reads what racklap settle printed and judges it line by line: withdrawals M n1 n2 .. < output.
+ *
+ * The stages are taken as printed. Who withdraws is worked out anew from the sentence of the scope:
+ * a competitor applies 0 to line j if some line above j carries 1 where its own bit is 0. */
+#include <stdbool.h>
+#include <stdio.h>
+#include <stdlib.h>
+#include <string.h>
+
+static unsigned m, t;
+static unsigned stages[64];
+
+static void expect(const char *row)
+{
+    char got[256] = "";
+    if (fgets(got, sizeof got, stdin) == NULL || strcmp(got, row) != 0) {
+        fprintf(stderr, "withdrawals: expected %sgot %s\n", row, got);
+        exit(1);
+    }
+}
+
+static bool withdraws(unsigned own, unsigned lines, unsigned j)
+{
+    bool conflict = false;
+    for (unsigned above = j + 1; above < m; above++) {
+        conflict = conflict || ((lines >> above & 1) == 1 && (own >> above & 1) == 0);
+    }
+    return (own >> j & 1) == 1 && conflict;
+}
+
+static void read_stages(void)
+{
+    char row[256];
+    sprintf(row, "stage  value  lines, line %u left\n", m - 1);
+    expect(row);
+    unsigned stage;
+    char binary[16];
+    while (scanf("%u %u %12[01]\n", &stage, &stages[t], binary) == 3) {
+        if (stage != t || strlen(binary) != m || strtoul(binary, NULL, 2) != stages[t] || t > 12) {
+            fprintf(stderr, "withdrawals: stage %u is wrong\n", t);
+            exit(1);
+        }
+        t++;
+    }
+    t--;
+    sprintf(row, "settled at %u after t = %u\n", stages[t], t);
+    expect(row);
+}
+
+/* Expects "stage S: N VERB line(s) a, b AFTER" if any of the lines is in the set. */
+static void expect_lines(unsigned stage, unsigned own, const char *verb, const bool set[12],
+                         const char *after)
+{
+    char list[128] = "";
+    unsigned count = 0;
+    for (unsigned j = m; j-- > 0;) {
+        if (set[j]) {
+            sprintf(list + strlen(list), "%s%u", count++ == 0 ? "" : ", ", j);
+        }
+    }
+    if (count > 0) {
+        char row[256];
+        sprintf(row, "stage %u: %u %s %s %s%s\n", stage, own, verb, count == 1 ? "line" : "lines",
+                list, after);
+        expect(row);
+    }
+}
+
+static void expect_competitor(unsigned stage, unsigned own)
+{
+    bool now[12] = {false};
+    bool again[12] = {false};
+    for (unsigned j = 0; j < m; j++) {
+        now[j] = withdraws(own, stages[stage - 1], j);
+        again[j] = stage > 1 && withdraws(own, stages[stage - 2], j) && !now[j];
+    }
+    expect_lines(stage, own, "withdraws", now, "");
+    expect_lines(stage, own, "applies", again, " again");
+}
+
+int main(int argc, char **argv)
+{
+    if (argc < 2) {
+        fprintf(stderr, "usage: withdrawals M n1 n2 .. < output\n");
+        return 2;
+    }
+    m = (unsigned)atoi(argv[1]);
+    read_stages();
+    for (unsigned stage = 1; stage <= t; stage++) {
+        for (int i = 2; i < argc; i++) {
+            expect_competitor(stage, (unsigned)atoi(argv[i]));
+        }
+    }
+    if (getchar() != EOF) {
+        fprintf(stderr, "withdrawals: a row too many\n");
+        return 1;
+    }
+    return 0;
+}

@@ -1,0 +1,10 @@
+/* A settling as a value change dump, for GTKWave. */
+#ifndef VCD_H
+#define VCD_H
+
+#include "settling.h"
+
+/* One time unit a stage, one wire a line. */
+void write_vcd(const struct settling *settling, const char *name);
+
+#endif
