@@ -6,9 +6,9 @@ run: target/bin/racktrace target/tools/racklap
 	@echo
 	@cd examples/three-cards && ../../target/bin/racktrace <trace | ../../target/tools/racklap why 3 rack.tab
 
-# The proved program; rt proves again only what has changed.
-target/bin/racktrace: crates.txt $(shell find crates -type f)
-	rt check racktrace
+# The proved programs; rt proves again only what has changed.
+target/bin/racktrace target/bin/rackstate: crates.txt $(shell find crates -type f)
+	rt check $(@F)
 	@touch $@
 
 target/staticlib/liblaptop.a: crates.txt $(shell find crates -type f)
@@ -25,7 +25,7 @@ bench: target/bin/racktrace target/staticlib/liblaptop.a
 	bench/stack
 
 # N times the numbers of the gate, with fresh seeds.
-soak: target/bin/racktrace target/staticlib/liblaptop.a
+soak: target/bin/racktrace target/bin/rackstate target/staticlib/liblaptop.a
 	compare/soak $(N)
 
 # All rows of the published tables.

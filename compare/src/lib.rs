@@ -1,16 +1,19 @@
 //! An independent reading of the rack's rules, and the means to hold the product against it.
 //!
-//! The reference is `settling`, `rules`, `table`, `rack`, `listing` and `seen_from_c`.
-//! The product is reached through `entries` and `racktrace` alone.
+//! The reference is `settling`, `rules`, `table`, `rack`, `listing`, `waiting`, `seen_from_c` and `seen_as_bytes`.
+//! The product is reached through `entries`, `racktrace` and `rackstate` alone.
 
 pub mod entries;
 pub mod judge;
 pub mod listing;
 pub mod rack;
+pub mod rackstate;
 pub mod racktrace;
 pub mod report;
 pub mod rng;
 pub mod rules;
+pub mod running;
+pub mod seen_as_bytes;
 pub mod seen_from_c;
 pub mod settling;
 pub mod table;

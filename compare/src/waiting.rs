@@ -1,72 +1,241 @@
-//! The waits of one card, worked out from a listing alone.
+//! The waits of one card, searched for in the whole history that a listing tells.
+//!
+//! No state of the rack is kept or replayed here: an ask, its grant and the grants in between
+//! are found by their places in the history.
 
-#[derive(Debug, PartialEq, Eq)]
+use crate::listing::{self, LISTING_LINE};
+use crate::rack::Event;
+use crate::table::Table;
+
+/// What one line of a listing tells. Its place in the history gives its line.
+#[derive(Clone, Copy, Debug, PartialEq, Eq)]
+pub enum Entry {
+    Asked(u8),
+    Granted(u8),
+    Released(u8),
+    Refused,
+}
+
+impl Entry {
+    fn fits(self, table: &Table) -> bool {
+        match self {
+            Entry::Asked(card) | Entry::Granted(card) | Entry::Released(card) => table.has(card),
+            Entry::Refused => true,
+        }
+    }
+}
+
+#[derive(Clone, Debug, PartialEq, Eq)]
 pub struct Wait {
-    /// The line of the request, counted from 1.
+    /// Lines are counted from 1.
     pub asked: usize,
-    /// The line of the grant, if it came.
+    /// Nothing if the wait is not over at the end.
     pub granted: Option<usize>,
-    /// The numbers granted in between, in their order.
+    /// The other cards granted in between, in the order of their grants.
     pub others: Vec<u8>,
 }
 
-/// What a listing line says about waits.
-enum Said {
-    Asked(u8),
-    Granted(u8),
-    Nothing,
+fn number(digits: &[u8]) -> Option<u16> {
+    digits.iter().try_fold(0, |value, digit| {
+        digit
+            .is_ascii_digit()
+            .then(|| 10 * value + u16::from(digit - b'0'))
+    })
 }
 
-fn number(digits: &str) -> Result<u8, String> {
-    digits
-        .parse()
-        .map_err(|_| format!("{digits:?} is no number"))
+/// What stands in the event's place, then answer, winner, lines and stages.
+fn fields(line: &[u8]) -> Option<(&[u8], [u16; 4])> {
+    let has_the_form = line.len() == LISTING_LINE
+        && line.ends_with(b"\n")
+        && [4, 7, 10, 15].iter().all(|&at| line[at] == b' ');
+    if !has_the_form {
+        return None;
+    }
+    let numbers = [
+        number(&line[5..7])?,
+        number(&line[8..10])?,
+        number(&line[11..15])?,
+        number(&line[16..18])?,
+    ];
+    Some((&line[..4], numbers))
 }
 
-/// A refused event says nothing, nor does the line that ends a listing.
-fn said(line: &str) -> Result<Said, String> {
-    if line.len() != 18 || !line.is_ascii() {
-        return Err(format!("{line:?} is no listing line"));
-    }
-    let (event, answer, winner) = (&line[..4], &line[5..7], &line[8..10]);
-    if answer != "00" {
-        return Ok(Said::Nothing);
-    }
-    match &event[..1] {
-        "Q" => Ok(Said::Asked(number(&event[2..])?)),
-        "A" => Ok(Said::Granted(number(winner)?)),
-        "R" => Ok(Said::Nothing),
-        _ => Err(format!("{line:?} is no event")),
+/// Nothing if no event can be answered so.
+fn entry(line: &[u8]) -> Option<Entry> {
+    let (first, numbers) = fields(line)?;
+    let event = listing::event(&[first, b"\n"].concat())?;
+    match (event, numbers) {
+        (Event::Request(card), [0, 0, 0, 0]) => Some(Entry::Asked(card)),
+        (Event::Release(card), [0, 0, 0, 0]) => Some(Entry::Released(card)),
+        (Event::Arbitrate, [0, winner, _, _]) => u8::try_from(winner).ok().map(Entry::Granted),
+        (_, [11..=17, 0, 0, 0]) => Some(Entry::Refused),
+        _ => None,
     }
 }
 
-/// The waits of a card, each from its request on.
-pub fn waits(listing: &str, card: u8) -> Result<Vec<Wait>, String> {
-    let mut over = Vec::new();
-    let mut open: Option<Wait> = None;
-    for (index, line) in listing.lines().enumerate() {
-        match (said(line)?, &mut open) {
-            (Said::Asked(number), None) if number == card => {
-                open = Some(Wait {
-                    asked: index + 1,
-                    granted: None,
-                    others: Vec::new(),
-                });
-            }
-            (Said::Asked(number), Some(_)) if number == card => {
-                return Err(format!("line {} asks twice", index + 1));
-            }
-            (Said::Granted(number), Some(wait)) if number == card => {
-                wait.granted = Some(index + 1);
-                over.extend(open.take());
-            }
-            (Said::Granted(number), None) if number == card => {
-                return Err(format!("line {} grants what nobody asked", index + 1));
-            }
-            (Said::Granted(number), Some(wait)) => wait.others.push(number),
-            _ => {}
+/// A refused table or a malformed trace line, after which the rack prints no more.
+fn is_ending(line: &[u8]) -> bool {
+    matches!(
+        fields(line),
+        Some((b"tab.", [1..=7, 0, 0, 0]) | (b"----", [18, 0, 0, 0]))
+    )
+}
+
+/// The entries of a listing, or which line is none or has a card outside the table.
+/// Whether an event can follow those before it is not judged.
+pub fn history(listing: &[u8], table: &Table) -> Result<Vec<Entry>, String> {
+    let mut lines: Vec<&[u8]> = listing.split_inclusive(|&byte| byte == b'\n').collect();
+    if lines.last().is_some_and(|line| is_ending(line)) {
+        lines.pop();
+    }
+    let entries = lines.iter().zip(1..).map(|(line, count)| {
+        entry(line)
+            .filter(|entry| entry.fits(table))
+            .ok_or_else(|| format!("line {count} is no listing line of this rack"))
+    });
+    entries.collect()
+}
+
+fn wait_from(ask: usize, history: &[Entry], card: u8) -> Wait {
+    let grant = (ask..history.len()).find(|&at| history[at] == Entry::Granted(card));
+    let between = &history[ask..grant.unwrap_or(history.len())];
+    let others = between.iter().filter_map(|entry| match entry {
+        Entry::Granted(other) => Some(*other),
+        _ => None,
+    });
+    Wait {
+        asked: ask + 1,
+        granted: grant.map(|at| at + 1),
+        others: others.collect(),
+    }
+}
+
+/// Every wait of a card, in the order of its asks.
+pub fn waits(history: &[Entry], card: u8) -> Vec<Wait> {
+    (0..history.len())
+        .filter(|&at| history[at] == Entry::Asked(card))
+        .map(|ask| wait_from(ask, history, card))
+        .collect()
+}
+
+fn row(wait: &Wait, table: &Table) -> String {
+    let granted = wait
+        .granted
+        .map_or("-".to_string(), |line| line.to_string());
+    let others: String = wait
+        .others
+        .iter()
+        .map(|&card| format!(" {}:{card}", table.slots[usize::from(card)]))
+        .collect();
+    format!("asked {} granted {granted} others{others}\n", wait.asked)
+}
+
+/// A row for each wait of the card in a slot, then the longest wait in grants to others.
+pub fn rows(slot: u8, table: &Table, listing: &[u8]) -> Result<String, String> {
+    let card = table
+        .numbers()
+        .into_iter()
+        .find(|&card| table.slots[usize::from(card)] == slot)
+        .ok_or_else(|| format!("no card in slot {slot}"))?;
+    let waits = waits(&history(listing, table)?, card);
+    let longest = waits.iter().map(|wait| wait.others.len()).max();
+    let each: String = waits.iter().map(|wait| row(wait, table)).collect();
+    Ok(format!("{each}longest {}\n", longest.unwrap_or(0)))
+}
+
+#[cfg(test)]
+mod tests {
+    use super::rows;
+    use crate::table::{self, Table};
+
+    const WORKED: &str = "\
+Q 02 00 00 0000 00
+Q 05 00 00 0000 00
+Q 06 00 00 0000 00
+A 00 00 06 0006 02
+Q 06 00 00 0000 00
+A 00 13 00 0000 00
+R 05 15 00 0000 00
+R 06 00 00 0000 00
+A 00 00 05 0013 03
+R 05 00 00 0000 00
+A 00 00 02 0010 03
+R 02 00 00 0000 00
+A 00 00 06 0006 01
+R 06 00 00 0000 00
+A 00 14 00 0000 00
+";
+
+    /// Numbers 2, 5 and 6 in slots 1, 2 and 3.
+    fn worked_table() -> Table {
+        let file = b"\x01\0\x02\x03\x03\x01\x0c\0\x18\0\x02\0ANUM\0\x01SLOT\x01\x01\
+            \x02\x01\x05\x02\x06\x03";
+        table::load(file).expect("the worked table is accepted")
+    }
+
+    fn rows_of(slot: u8, listing: &str) -> Result<String, String> {
+        rows(slot, &worked_table(), listing.as_bytes())
+    }
+
+    fn first_lines(count: usize) -> String {
+        WORKED.split_inclusive('\n').take(count).collect()
+    }
+
+    #[test]
+    fn the_worked_listing() {
+        let slot_1 = "asked 1 granted 11 others 3:6 2:5\nlongest 2\n";
+        let slot_2 = "asked 2 granted 9 others 3:6\nlongest 1\n";
+        let slot_3 = "asked 3 granted 4 others\nasked 5 granted 13 others 2:5 1:2\nlongest 2\n";
+        assert_eq!(rows_of(1, WORKED).as_deref(), Ok(slot_1));
+        assert_eq!(rows_of(2, WORKED).as_deref(), Ok(slot_2));
+        assert_eq!(rows_of(3, WORKED).as_deref(), Ok(slot_3));
+    }
+
+    #[test]
+    fn a_wait_that_is_not_over() {
+        let rows = "asked 1 granted - others 3:6 2:5\nlongest 2\n";
+        assert_eq!(rows_of(1, &first_lines(10)).as_deref(), Ok(rows));
+    }
+
+    #[test]
+    fn a_refused_request_is_no_ask() {
+        let listing = first_lines(3) + "Q 05 12 00 0000 00\n";
+        let rows = "asked 2 granted - others\nlongest 0\n";
+        assert_eq!(rows_of(2, &listing).as_deref(), Ok(rows));
+    }
+
+    #[test]
+    fn an_ending_is_passed_over_only_at_the_end() {
+        let malformed = "---- 18 00 0000 00\n";
+        let refused = "tab. 07 00 0000 00\n";
+        assert_eq!(rows_of(1, "").as_deref(), Ok("longest 0\n"));
+        assert_eq!(rows_of(1, refused).as_deref(), Ok("longest 0\n"));
+        assert_eq!(
+            rows_of(1, &(WORKED.to_string() + malformed)),
+            rows_of(1, WORKED)
+        );
+        assert!(rows_of(1, &(malformed.to_string() + WORKED)).is_err());
+    }
+
+    #[test]
+    fn bad_input() {
+        assert!(rows_of(0, WORKED).is_err());
+        assert!(rows_of(4, WORKED).is_err());
+        let bad_lines = [
+            "\n",
+            "Q 02 00 00 0000 00",
+            "Q 02 00 00 0000 00 \n",
+            "Q 02 00 00 0000 0x\n",
+            "Q-02 00 00 0000 00\n",
+            "Q 02 00 02 0000 00\n",
+            "Q 02 18 00 0000 00\n",
+            "Q 03 00 00 0000 00\n",
+            "A 00 00 00 0000 00\n",
+            "A 00 00 03 0003 01\n",
+        ];
+        for bad in bad_lines {
+            let message = "line 3 is no listing line of this rack".to_string();
+            assert_eq!(rows_of(1, &(first_lines(2) + bad)), Err(message), "{bad:?}");
         }
     }
-    over.extend(open);
-    Ok(over)
 }

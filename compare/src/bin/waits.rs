@@ -1,57 +1,41 @@
-//! Prints the waits of the card in a slot: `waits SLOT rack.tab < listing`.
+//! Prints the waits of the card in a slot, worked out from the listing on standard input.
 
-use compare::table::{self, Table};
-use compare::waiting::{waits, Wait};
-use std::fs;
-use std::io::{stdin, Read};
+use compare::{table, waiting};
+use std::ffi::OsString;
+use std::io::{self, Read, Write};
 use std::process::ExitCode;
+use std::{env, fs};
 
-fn card_in(slot: &str, table: &Table) -> Result<u8, String> {
-    let wanted: u8 = slot.parse().map_err(|_| format!("{slot} is no slot"))?;
-    let mut numbers = table.numbers().into_iter();
-    numbers
-        .find(|&number| table.slots[usize::from(number)] == wanted)
-        .ok_or(format!("slot {slot} has no card"))
+fn rows(arguments: &[OsString]) -> Result<String, String> {
+    let [slot, path] = arguments else {
+        return Err("usage: waits SLOT rack.tab < listing".to_string());
+    };
+    let slot = slot
+        .to_str()
+        .and_then(|digits| digits.parse().ok())
+        .ok_or_else(|| format!("{slot:?} is no slot"))?;
+    let file = fs::read(path).map_err(|error| format!("{path:?}: {error}"))?;
+    let table =
+        table::load(&file).map_err(|refusal| format!("{path:?} is refused with {refusal}"))?;
+    let mut listing = Vec::new();
+    io::stdin()
+        .read_to_end(&mut listing)
+        .map_err(|error| format!("the listing: {error}"))?;
+    waiting::rows(slot, &table, &listing)
 }
 
-fn row(wait: &Wait, table: &Table) -> String {
-    let granted = match wait.granted {
-        Some(line) => line.to_string(),
-        None => "-".to_string(),
-    };
-    let slot = |number: &u8| table.slots[usize::from(*number) % 64];
-    let others = wait.others.iter();
-    let others: String = others
-        .map(|number| format!(" {}:{number}", slot(number)))
-        .collect();
-    format!("asked {} granted {granted} others{others}", wait.asked)
-}
-
-fn run() -> Result<(), String> {
-    let words: Vec<String> = std::env::args().skip(1).collect();
-    let [slot, path] = &words[..] else {
-        return Err("waits SLOT rack.tab < listing".to_string());
-    };
-    let file = fs::read(path).map_err(|error| format!("{path}: {error}"))?;
-    let table = table::load(&file).map_err(|refusal| format!("{path}: refused with {refusal}"))?;
-    let card = card_in(slot, &table)?;
-    let mut listing = String::new();
-    let read = stdin().read_to_string(&mut listing);
-    read.map_err(|error| format!("the listing: {error}"))?;
-    let waits = waits(&listing, card)?;
-    for wait in &waits {
-        println!("{}", row(wait, &table));
-    }
-    let longest = waits.iter().map(|wait| wait.others.len()).max();
-    println!("longest {}", longest.unwrap_or(0));
-    Ok(())
+fn print(rows: &str) -> Result<(), String> {
+    io::stdout()
+        .write_all(rows.as_bytes())
+        .map_err(|error| format!("the rows: {error}"))
 }
 
 fn main() -> ExitCode {
-    match run() {
+    let arguments: Vec<OsString> = env::args_os().skip(1).collect();
+    match rows(&arguments).and_then(|rows| print(&rows)) {
         Ok(()) => ExitCode::SUCCESS,
         Err(what) => {
-            eprintln!("{what}");
+            eprintln!("waits: {what}");
             ExitCode::FAILURE
         }
     }

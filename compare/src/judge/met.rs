@@ -2,9 +2,9 @@
 
 use std::collections::BTreeMap;
 
-/// The numbers that the product's entries can show. 16 and 17 are not among them.
-const WITHIN_REACH: [u32; 18] = [
-    1, 2, 3, 4, 5, 6, 7, 8, 11, 12, 13, 14, 15, 18, 21, 22, 23, 24,
+/// The numbers that the product can show.
+const NUMBERS: [u32; 20] = [
+    1, 2, 3, 4, 5, 6, 7, 8, 11, 12, 13, 14, 15, 16, 17, 18, 21, 22, 23, 24,
 ];
 
 #[derive(Default)]
@@ -17,9 +17,9 @@ impl Met {
         *self.counts.entry(number).or_default() += 1;
     }
 
-    /// Each number within reach, with how often it was met.
-    pub fn within_reach(&self) -> Vec<(u32, u64)> {
-        WITHIN_REACH
+    /// Each number of the screen, with how often it was met.
+    pub fn all(&self) -> Vec<(u32, u64)> {
+        NUMBERS
             .iter()
             .map(|&number| (number, self.counts.get(&number).copied().unwrap_or(0)))
             .collect()

@@ -1,5 +1,6 @@
 //! The product held against the reference, on named cases and on generated ones.
 
+pub mod asked;
 pub mod boundaries;
 pub mod conversation;
 pub mod damage;
@@ -13,11 +14,15 @@ pub mod named_settlings;
 pub mod named_tables;
 pub mod named_traces;
 pub mod settlings;
+pub mod state_faults;
+pub mod state_maker;
+pub mod states;
 pub mod tables;
 pub mod trace_maker;
 pub mod traces;
 pub mod well_formed;
 
+use crate::rackstate::Shared;
 use kind::Group;
 
 /// How many generated cases of each sort.
@@ -25,6 +30,7 @@ pub struct Sizes {
     pub settlings: u64,
     pub tables: u64,
     pub traces: u64,
+    pub states: u64,
 }
 
 impl Sizes {
@@ -33,19 +39,22 @@ impl Sizes {
             settlings: self.settlings * times,
             tables: self.tables * times,
             traces: self.traces * times,
+            states: self.states * times,
         }
     }
 }
 
 pub fn groups(sizes: &Sizes) -> Vec<Group> {
+    let program = Shared::default();
     vec![
         Group::once("known settlings", named_settlings::kinds()),
-        Group::once("known tables", named_tables::kinds()),
+        Group::once("known tables", named_tables::kinds(&program)),
         Group::once("known traces", named_traces::kinds()),
-        Group::once("well-formed states", well_formed::kinds()),
+        Group::once("well-formed states", well_formed::kinds(&program)),
         Group::once("exhaustive", exhaustive::kinds()),
         Group::of("settlings", sizes.settlings, settlings::kinds()),
         Group::of("tables", sizes.tables, tables::kinds()),
         Group::of("traces", sizes.traces, traces::kinds()),
+        Group::of("states", sizes.states, states::kinds(&program)),
     ]
 }

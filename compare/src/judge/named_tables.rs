@@ -1,12 +1,14 @@
-//! The tables that the rules name, and the reference's save.
+//! The tables that the rules name, checked and saved.
 
+use super::asked::hold_expecting;
 use super::expect::expect;
 use super::kind::Kind;
 use super::met::Met;
 use crate::entries;
 use crate::rack::Rack;
+use crate::rackstate::Shared;
+use crate::seen_as_bytes::{Ask, ANSWER, STATE};
 use crate::seen_from_c;
-use crate::table;
 
 /// Three cards under rule 1, just as a save writes them.
 pub const WORKED_TABLE: [u8; 30] = [
@@ -35,36 +37,70 @@ fn checked(name: &str, file: Vec<u8>, stated: u32) -> Kind {
     Kind::named(name, move |met| both_check(&file, stated, met))
 }
 
-/// The product gives no save to C, so this one is the reference's alone.
-fn reference_save(length: usize, stated: Result<usize, u32>) -> Result<(), String> {
-    let (rack, _) = Rack::load(&WORKED_TABLE);
-    let mut buffer = vec![0xee; length];
-    expect(table::save(&rack, &mut buffer), stated)?;
-    match stated {
-        Ok(written) => expect(&buffer[..written], &WORKED_TABLE[..]),
-        Err(_) => expect(buffer, vec![0xee; length]),
-    }
+/// Both give the stated number for a save of the file's table to so many bytes;
+/// gives the length and the lent bytes.
+fn saved(
+    file: &[u8],
+    lent: u8,
+    stated: u32,
+    program: &Shared,
+    met: &mut Met,
+) -> Result<(u16, Vec<u8>), String> {
+    let (rack, _) = Rack::load(file);
+    let ask = Ask {
+        letter: b'S',
+        number: lent,
+    };
+    let answer = hold_expecting(stated, &rack, ask, program, met)?;
+    let length = u16::from_le_bytes([answer[STATE + 1], answer[STATE + 2]]);
+    Ok((length, answer[ANSWER..].to_vec()))
 }
 
-fn save_of_a_refused_load() -> Result<(), String> {
-    let (rack, refusal) = Rack::load(&WORKED_TABLE[..11]);
-    expect(refusal, 1)?;
-    let mut short = [0xee; 3];
-    expect(table::save(&rack, &mut short), Err(17))?;
-    expect(short, [0xee; 3])
+fn refused_save(name: &str, file: Vec<u8>, lent: u8, stated: u32, program: &Shared) -> Kind {
+    let program = program.clone();
+    Kind::named(name, move |met| {
+        let found = saved(&file, lent, stated, &program, met)?;
+        expect(found, (0, vec![0xee; usize::from(lent)]))
+    })
 }
 
-/// Cards in another order, other columns between: an equal table saves to equal bytes.
-fn equal_tables_save_alike() -> Result<(), String> {
-    let other = file_with(3, 1, &[(6, 3), (2, 1), (5, 2)]);
-    let (rack, _) = Rack::load(&other);
-    let mut buffer = [0; 30];
-    expect(table::save(&rack, &mut buffer), Ok(30))?;
-    expect(buffer, WORKED_TABLE)
+/// Whatever the order of its cards, the table saves to the worked file.
+fn saves_worked_table(name: &str, file: Vec<u8>, program: &Shared) -> Kind {
+    let program = program.clone();
+    Kind::named(name, move |met| {
+        let found = saved(&file, 30, 0, &program, met)?;
+        expect(found, (30, WORKED_TABLE.to_vec()))
+    })
 }
 
-pub fn kinds() -> Vec<Kind> {
+fn saves(program: &Shared) -> Vec<Kind> {
+    let other_order = file_with(3, 1, &[(6, 3), (2, 1), (5, 2)]);
     vec![
+        refused_save(
+            "save-of-3-cards-into-29-bytes",
+            WORKED_TABLE.to_vec(),
+            29,
+            8,
+            program,
+        ),
+        saves_worked_table(
+            "save-of-3-cards-into-30-bytes",
+            WORKED_TABLE.to_vec(),
+            program,
+        ),
+        refused_save(
+            "save-of-a-refused-load",
+            WORKED_TABLE[..11].to_vec(),
+            3,
+            17,
+            program,
+        ),
+        saves_worked_table("saves-equal-tables-alike", other_order, program),
+    ]
+}
+
+pub fn kinds(program: &Shared) -> Vec<Kind> {
+    let mut kinds = vec![
         checked("worked-table", WORKED_TABLE.to_vec(), 0),
         checked("number-63-at-k-6", file_with(6, 0, &[(63, 1)]), 0),
         checked("number-64-at-k-6", file_with(6, 0, &[(64, 1)]), 7),
@@ -79,17 +115,7 @@ pub fn kinds() -> Vec<Kind> {
             3,
         ),
         checked("file-of-11-bytes", WORKED_TABLE[..11].to_vec(), 1),
-        Kind::named("reference-save-of-3-cards-into-29-bytes", |_| {
-            reference_save(29, Err(8))
-        }),
-        Kind::named("reference-save-of-3-cards-into-30-bytes", |_| {
-            reference_save(30, Ok(30))
-        }),
-        Kind::named("reference-save-of-a-refused-load", |_| {
-            save_of_a_refused_load()
-        }),
-        Kind::named("reference-saves-equal-tables-alike", |_| {
-            equal_tables_save_alike()
-        }),
-    ]
+    ];
+    kinds.extend(saves(program));
+    kinds
 }

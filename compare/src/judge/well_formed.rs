@@ -1,69 +1,95 @@
-//! 16 and 17 by the reference alone: no file and no trace leads the product to such a state.
+//! 16 and 17 on named states. No file and no trace leads to one, so they go to `rackstate`.
 
+use super::asked::hold_expecting;
 use super::expect::expect;
 use super::kind::Kind;
+use super::met::Met;
 use super::named_tables::{file_with, WORKED_TABLE};
-use crate::rack::{Bus, Event, Rack};
+use crate::rack::{Bus, Rack};
+use crate::rackstate::Shared;
+use crate::seen_as_bytes::{self, Ask};
 
-const EVENTS: [Event; 4] = [
-    Event::Request(2),
-    Event::Request(0),
-    Event::Arbitrate,
-    Event::Release(5),
+const ARBITRATE: Ask = Ask {
+    letter: b'A',
+    number: 0,
+};
+
+/// Three events, one of them by a number that no table has, and a save with enough bytes.
+const ASKED: [Ask; 5] = [
+    Ask {
+        letter: b'Q',
+        number: 2,
+    },
+    Ask {
+        letter: b'Q',
+        number: 0,
+    },
+    ARBITRATE,
+    Ask {
+        letter: b'R',
+        number: 5,
+    },
+    Ask {
+        letter: b'S',
+        number: 30,
+    },
 ];
 
-/// Every event on the worked table's fresh state with one fault gives 17.
-fn ill_formed(name: &str, fault: fn(&mut Rack)) -> Kind {
-    Kind::named(format!("reference-17-{name}"), move |_| {
+/// Whatever is asked of the worked table's fresh state with one fault gives 17.
+fn ill_formed(program: &Shared, name: &str, fault: fn(&mut Rack)) -> Kind {
+    let program = program.clone();
+    Kind::named(format!("17-{name}"), move |met| {
         let (mut rack, _) = Rack::load(&WORKED_TABLE);
         expect(rack.is_well_formed(), true)?;
         fault(&mut rack);
         expect(rack.is_well_formed(), false)?;
-        EVENTS
+        ASKED
             .iter()
-            .try_for_each(|&event| expect(rack.after(event).err(), Some(17)))
+            .try_for_each(|&ask| hold_expecting(17, &rack, ask, &program, met).map(|_| ()))
     })
 }
 
-fn ill_formed_states() -> Vec<Kind> {
+type Fault = (&'static str, fn(&mut Rack));
+
+fn ill_formed_states() -> Vec<Fault> {
     vec![
-        ill_formed("k-0", |rack| rack.table.k = 0),
-        ill_formed("k-7", |rack| rack.table.k = 7),
-        ill_formed("rule-3", |rack| rack.table.rule = 3),
-        ill_formed("no-card", |rack| rack.table.slots = [0; 64]),
-        ill_formed("slot-of-number-0", |rack| rack.table.slots[0] = 9),
-        ill_formed("number-over-k", |rack| rack.table.slots[8] = 9),
-        ill_formed("slot-64", |rack| rack.table.slots[2] = 64),
-        ill_formed("slot-twice", |rack| rack.table.slots[2] = 3),
-        ill_formed("stranger-waits", |rack| rack.waiting[3] = true),
-        ill_formed("stranger-won", |rack| rack.last_winner = 3),
-        ill_formed("last-winner-64", |rack| rack.last_winner = 64),
-        ill_formed("stranger-holds", |rack| {
+        ("k-0", |rack| rack.table.k = 0),
+        ("k-7", |rack| rack.table.k = 7),
+        ("rule-3", |rack| rack.table.rule = 3),
+        ("no-card", |rack| rack.table.slots = [0; 64]),
+        ("slot-of-number-0", |rack| rack.table.slots[0] = 9),
+        ("number-over-k", |rack| rack.table.slots[8] = 9),
+        ("slot-64", |rack| rack.table.slots[2] = 64),
+        ("slot-twice", |rack| rack.table.slots[2] = 3),
+        ("stranger-waits", |rack| rack.waiting[3] = true),
+        ("stranger-won", |rack| rack.last_winner = 3),
+        ("last-winner-64", |rack| rack.last_winner = 64),
+        ("stranger-holds", |rack| {
             rack.bus = Bus::Held(3);
             rack.last_winner = 3;
         }),
-        ill_formed("holder-is-not-the-last-winner", |rack| {
+        ("holder-is-not-the-last-winner", |rack| {
             rack.bus = Bus::Held(5);
             rack.last_winner = 2;
         }),
     ]
 }
 
-fn ill_formed_counts() -> Vec<Kind> {
+fn ill_formed_counts() -> Vec<Fault> {
     vec![
-        ill_formed("count-under-rule-1", |rack| {
+        ("count-under-rule-1", |rack| {
             rack.waiting[5] = true;
             rack.counts[5] = 1;
         }),
-        ill_formed("count-without-waiting", |rack| {
+        ("count-without-waiting", |rack| {
             rack.table.rule = 2;
             rack.counts[5] = 1;
         }),
-        ill_formed("count-of-a-stranger", |rack| {
+        ("count-of-a-stranger", |rack| {
             rack.table.rule = 2;
             rack.counts[3] = 1;
         }),
-        ill_formed("count-over-7-at-k-3", |rack| {
+        ("count-over-7-at-k-3", |rack| {
             rack.table.rule = 2;
             rack.waiting[5] = true;
             rack.counts[5] = 8;
@@ -81,25 +107,29 @@ fn full_counts(cards: &[u8]) -> Rack {
     rack
 }
 
-fn winner_with_full_count() -> Result<(), String> {
+fn winner_with_full_count(program: &Shared, met: &mut Met) -> Result<(), String> {
     let mut rack = full_counts(&[1]);
     rack.waiting[3] = true;
-    let (next, outcome) = rack
-        .after(Event::Arbitrate)
-        .map_err(|n| format!("gives {n}"))?;
-    expect((outcome.winner, outcome.lines), (1, 13))?;
+    let answer = hold_expecting(0, &rack, ARBITRATE, program, met)?;
+    let (next, report) = answer.split_at(seen_as_bytes::STATE);
+    // The winner 1, the lines 13 in two bytes, and the stages.
+    expect(&report[1..4], &[1, 13, 0])?;
+    let next = seen_as_bytes::rack(next);
     expect((next.counts[1], next.counts[3]), (0, 1))
 }
 
-pub fn kinds() -> Vec<Kind> {
-    let mut kinds = ill_formed_states();
-    kinds.extend(ill_formed_counts());
-    kinds.push(Kind::named("reference-16-loser-with-full-count", |_| {
-        let answer = full_counts(&[1, 3]).after(Event::Arbitrate);
-        expect(answer.err(), Some(16))
+pub fn kinds(program: &Shared) -> Vec<Kind> {
+    let faults = ill_formed_states().into_iter().chain(ill_formed_counts());
+    let mut kinds: Vec<Kind> = faults
+        .map(|(name, fault)| ill_formed(program, name, fault))
+        .collect();
+    let by = program.clone();
+    kinds.push(Kind::named("16-loser-with-full-count", move |met| {
+        hold_expecting(16, &full_counts(&[1, 3]), ARBITRATE, &by, met).map(|_| ())
     }));
-    kinds.push(Kind::named("reference-grants-a-full-count", |_| {
-        winner_with_full_count()
+    let by = program.clone();
+    kinds.push(Kind::named("grants-a-full-count", move |met| {
+        winner_with_full_count(&by, met)
     }));
     kinds
 }

@@ -1,0 +1,174 @@
+//! Faults that make a state ill-formed: each thing that a well-formed state must be, broken alone.
+
+use crate::rack::{Bus, Rack};
+use crate::rng::Rng;
+use crate::table::greatest_number;
+
+pub type Fault = (&'static str, fn(&mut Rack, &mut Rng));
+
+fn any_card(rack: &Rack, rng: &mut Rng) -> u8 {
+    match rack.table.numbers() {
+        cards if cards.is_empty() => 1,
+        cards => *rng.pick(&cards),
+    }
+}
+
+/// A number from 0 to 63 that no card has; number 0 is always one.
+fn stranger(rack: &Rack, rng: &mut Rng) -> u8 {
+    let strangers: Vec<u8> = (0..64).filter(|&a| !rack.table.has(a)).collect();
+    match strangers.is_empty() {
+        true => 0,
+        false => *rng.pick(&strangers),
+    }
+}
+
+/// A slot that no card has, if there is one.
+fn free_slot(rack: &Rack) -> u8 {
+    let mut slots = 1..=63;
+    slots
+        .find(|slot| !rack.table.slots.contains(slot))
+        .unwrap_or(1)
+}
+
+/// From `low` to 255.
+fn over(low: u8, rng: &mut Rng) -> u8 {
+    let any = rng.between(u64::from(low), 255) as u8;
+    *rng.pick(&[low, 255, any])
+}
+
+fn no_card(rack: &mut Rack, _: &mut Rng) {
+    *rack = Rack::fresh(rack.table);
+    rack.table.slots = [0; 64];
+}
+
+/// A card with a number of more than k bits; at k = 6 there is none, so k becomes less.
+fn number_over_k(rack: &mut Rack, rng: &mut Rng) {
+    rack.table.k = rack.table.k.clamp(1, 5);
+    let least = u64::from(greatest_number(rack.table.k)) + 1;
+    let number = rng.between(least, 63) as usize;
+    rack.table.slots[number] = free_slot(rack);
+}
+
+/// Two numbers have one slot. Where there is but one number, number 0 has it too.
+fn slot_twice(rack: &mut Rack, rng: &mut Rng) {
+    let card = any_card(rack, rng);
+    let greatest = greatest_number(rack.table.k.clamp(1, 6));
+    let others: Vec<u8> = (1..=greatest).filter(|&a| a != card).collect();
+    let other = match others.is_empty() {
+        true => 0,
+        false => *rng.pick(&others),
+    };
+    let slot = rack.table.slots[usize::from(card)].max(1);
+    rack.table.slots[usize::from(card)] = slot;
+    rack.table.slots[usize::from(other)] = slot;
+}
+
+fn table_faults() -> Vec<Fault> {
+    vec![
+        ("k-0", |rack, _| rack.table.k = 0),
+        ("k-over-6", |rack, rng| rack.table.k = over(7, rng)),
+        ("rule-over-2", |rack, rng| rack.table.rule = over(3, rng)),
+        ("no-card", no_card),
+        ("slot-of-number-0", |rack, _| {
+            rack.table.slots[0] = free_slot(rack)
+        }),
+        ("number-over-k", number_over_k),
+        ("slot-over-63", |rack, rng| {
+            let card = any_card(rack, rng);
+            rack.table.slots[usize::from(card)] = over(64, rng);
+        }),
+        ("slot-twice", slot_twice),
+    ]
+}
+
+/// The last winner is no card, nor 0; where all 63 numbers are cards it is 64.
+fn stranger_won(rack: &mut Rack, rng: &mut Rng) {
+    let strangers: Vec<u8> = (1..=64).filter(|&a| !rack.table.has(a)).collect();
+    rack.bus = Bus::Free;
+    rack.last_winner = *rng.pick(&strangers);
+}
+
+fn holds(rack: &mut Rack, holder: u8) {
+    rack.bus = Bus::Held(holder);
+    rack.last_winner = holder;
+}
+
+/// A holder beside another last winner, which may be none.
+fn holder_is_not_the_last_winner(rack: &mut Rack, rng: &mut Rng) {
+    let holder = any_card(rack, rng);
+    let mut others = rack.table.numbers();
+    others.retain(|&card| card != holder);
+    others.push(0);
+    rack.bus = Bus::Held(holder);
+    rack.last_winner = *rng.pick(&others);
+}
+
+fn winner_faults() -> Vec<Fault> {
+    vec![
+        ("stranger-waits", |rack, rng| {
+            let stranger = stranger(rack, rng);
+            rack.waiting[usize::from(stranger)] = true;
+        }),
+        ("stranger-won", stranger_won),
+        ("last-winner-over-63", |rack, rng| {
+            rack.bus = Bus::Free;
+            rack.last_winner = over(64, rng);
+        }),
+        ("stranger-holds", |rack, rng| {
+            let stranger = stranger(rack, rng);
+            holds(rack, stranger);
+        }),
+        ("holder-over-63", |rack, rng| holds(rack, over(64, rng))),
+        (
+            "holder-is-not-the-last-winner",
+            holder_is_not_the_last_winner,
+        ),
+    ]
+}
+
+/// Rule 2, under which no count that is left is a fault.
+fn with_counts(rack: &mut Rack) {
+    if rack.table.rule != 2 {
+        rack.table.rule = 2;
+        rack.counts = [0; 64];
+    }
+}
+
+fn count_without_waiting(rack: &mut Rack, rng: &mut Rng) {
+    with_counts(rack);
+    let card = usize::from(any_card(rack, rng));
+    rack.waiting[card] = false;
+    rack.counts[card] = over(1, rng);
+}
+
+fn count_over_range(rack: &mut Rack, rng: &mut Rng) {
+    with_counts(rack);
+    let card = usize::from(any_card(rack, rng));
+    rack.waiting[card] = true;
+    rack.counts[card] = over(greatest_number(rack.table.k.clamp(1, 6)) + 1, rng);
+}
+
+fn count_under_another_rule(rack: &mut Rack, rng: &mut Rng) {
+    rack.table.rule = rng.below(2) as u8;
+    rack.counts = [0; 64];
+    let card = usize::from(any_card(rack, rng));
+    rack.waiting[card] = true;
+    rack.counts[card] = over(1, rng);
+}
+
+fn count_faults() -> Vec<Fault> {
+    vec![
+        ("count-without-waiting", count_without_waiting),
+        ("count-of-a-stranger", |rack, rng| {
+            with_counts(rack);
+            let stranger = usize::from(stranger(rack, rng));
+            rack.counts[stranger] = over(1, rng);
+        }),
+        ("count-over-range", count_over_range),
+        ("count-under-another-rule", count_under_another_rule),
+    ]
+}
+
+pub fn faults() -> Vec<Fault> {
+    [table_faults(), winner_faults(), count_faults()].concat()
+}

@@ -1,0 +1,87 @@
+//! Makes well-formed states of any table, and what is asked of a state.
+
+use super::trace_maker::table_file;
+use crate::rack::{Bus, Rack};
+use crate::rng::Rng;
+use crate::seen_as_bytes::Ask;
+use crate::table::greatest_number;
+
+/// A count from 0 to the greatest, which is often what it is.
+fn count(greatest: u8, rng: &mut Rng) -> u8 {
+    match rng.below(4) {
+        0 => 0,
+        1 => greatest,
+        2 => greatest - 1,
+        _ => rng.below(u64::from(greatest) + 1) as u8,
+    }
+}
+
+/// None, some or all of the cards wait; under rule 2 with counts.
+fn begin_waiting(rack: &mut Rack, rng: &mut Rng) {
+    let eighths = *rng.pick(&[0, 1, 2, 4, 6, 8]);
+    for card in rack.table.numbers() {
+        let place = usize::from(card);
+        rack.waiting[place] = rng.chance(eighths, 8);
+        if rack.waiting[place] && rack.table.rule == 2 {
+            rack.counts[place] = count(greatest_number(rack.table.k), rng);
+        }
+    }
+}
+
+/// A well-formed state of any table with this rule.
+pub fn sound(rule: u8, rng: &mut Rng) -> Rack {
+    let (mut rack, _) = Rack::load(&table_file(rule, rng));
+    begin_waiting(&mut rack, rng);
+    if rng.chance(3, 4) {
+        rack.last_winner = *rng.pick(&rack.table.numbers());
+        if rng.chance(1, 3) {
+            rack.bus = Bus::Held(rack.last_winner);
+        }
+    }
+    rack
+}
+
+/// A number that an event may name, in the table or not.
+fn card(rack: &Rack, rng: &mut Rng) -> u8 {
+    let cards = rack.table.numbers();
+    let any = rng.byte();
+    match rng.below(4) {
+        0 => rack.last_winner,
+        1 => *rng.pick(&[0, 63, 64, 255, any]),
+        _ if cards.is_empty() => any,
+        _ => *rng.pick(&cards),
+    }
+}
+
+/// How many bytes are lent to a save: about as many as it needs, or none, or many.
+fn lent(rack: &Rack, rng: &mut Rng) -> u8 {
+    let needed = 24 + 2 * rack.table.numbers().len() as u8;
+    let any = rng.byte();
+    *rng.pick(&[needed - 1, needed, needed + 1, needed - 2, 0, 255, any])
+}
+
+/// A letter that names no event and no save.
+fn unknown_letter(rng: &mut Rng) -> u8 {
+    loop {
+        let any = rng.byte();
+        let letter = *rng.pick(&[b'q', b'a', b'r', b's', b'P', b'B', 0, 255, any]);
+        if !b"QARS".contains(&letter) {
+            return letter;
+        }
+    }
+}
+
+/// Each event, a save and an unknown letter, in any order.
+pub fn asks(rack: &Rack, rng: &mut Rng) -> Vec<Ask> {
+    let any = rng.byte();
+    let mut asks = [
+        (b'Q', card(rack, rng)),
+        (b'A', *rng.pick(&[0, any])),
+        (b'R', card(rack, rng)),
+        (b'S', lent(rack, rng)),
+        (unknown_letter(rng), card(rack, rng)),
+    ]
+    .map(|(letter, number)| Ask { letter, number });
+    rng.shuffle(&mut asks);
+    asks.to_vec()
+}

@@ -1,0 +1,125 @@
+//! The reference behind the same records that the product's `rackstate` takes and gives.
+
+use crate::rack::{Bus, Event, Outcome, Rack};
+use crate::table::{self, Table};
+
+/// k, the rule, three arrays by number, the last winner, and two bytes for the bus.
+pub const STATE: usize = 2 + 3 * 64 + 3;
+/// A state, a letter and a number.
+pub const RECORD: usize = STATE + 2;
+/// A state and five bytes about what became of it; after a save the lent bytes follow.
+pub const ANSWER: usize = STATE + 5;
+
+const LENT: u8 = 0xee;
+
+/// What is asked of a state: an event by its letter, or S for a save to so many bytes.
+#[derive(Clone, Copy, Debug, PartialEq, Eq)]
+pub struct Ask {
+    pub letter: u8,
+    pub number: u8,
+}
+
+fn numbers(bytes: &[u8]) -> [u8; 64] {
+    bytes.try_into().expect("64 bytes")
+}
+
+/// The state at the front of a record. Anything but 0 is yes.
+pub fn rack(bytes: &[u8]) -> Rack {
+    let (slots, bytes_after) = bytes[2..].split_at(64);
+    let (waiting, bytes_after) = bytes_after.split_at(64);
+    let (counts, bytes_after) = bytes_after.split_at(64);
+    Rack {
+        table: Table {
+            k: bytes[0],
+            rule: bytes[1],
+            slots: numbers(slots),
+        },
+        waiting: numbers(waiting).map(|byte| byte != 0),
+        counts: numbers(counts),
+        last_winner: bytes_after[0],
+        bus: match bytes_after[1] {
+            0 => Bus::Free,
+            _ => Bus::Held(bytes_after[2]),
+        },
+    }
+}
+
+fn state_bytes(rack: &Rack) -> Vec<u8> {
+    let mut bytes = vec![rack.table.k, rack.table.rule];
+    bytes.extend(rack.table.slots);
+    bytes.extend(rack.waiting.map(u8::from));
+    bytes.extend(rack.counts);
+    bytes.push(rack.last_winner);
+    bytes.extend(match rack.bus {
+        Bus::Free => [0, 0],
+        Bus::Held(card) => [1, card],
+    });
+    bytes
+}
+
+pub fn record(rack: &Rack, ask: Ask) -> Vec<u8> {
+    [state_bytes(rack), vec![ask.letter, ask.number]].concat()
+}
+
+/// What a record asks.
+pub fn ask(record: &[u8]) -> Ask {
+    Ask {
+        letter: record[STATE],
+        number: record[STATE + 1],
+    }
+}
+
+/// How long the answer to a record is.
+pub fn answer_length(record: &[u8]) -> usize {
+    match ask(record) {
+        Ask {
+            letter: b'S',
+            number,
+        } => ANSWER + usize::from(number),
+        _ => ANSWER,
+    }
+}
+
+/// The number of the screen in an answer.
+pub fn number_of(answer: &[u8]) -> u32 {
+    u32::from(answer[STATE])
+}
+
+/// The whole answer to a record.
+pub fn answer(record: &[u8]) -> Vec<u8> {
+    let rack = rack(record);
+    match ask(record) {
+        Ask {
+            letter: b'S',
+            number,
+        } => save(&rack, usize::from(number)),
+        ask => event(&rack, ask),
+    }
+}
+
+fn event(rack: &Rack, ask: Ask) -> Vec<u8> {
+    let after = match ask.letter {
+        b'Q' => rack.after(Event::Request(ask.number)),
+        b'A' => rack.after(Event::Arbitrate),
+        b'R' => rack.after(Event::Release(ask.number)),
+        _ => Err(18),
+    };
+    let (next, number, outcome) = match after {
+        Ok((next, outcome)) => (next, 0, outcome),
+        Err(refusal) => (*rack, refusal as u8, Outcome::default()),
+    };
+    let [low, high] = outcome.lines.to_le_bytes();
+    let report = vec![number, outcome.winner, low, high, outcome.stages];
+    [state_bytes(&next), report].concat()
+}
+
+fn save(rack: &Rack, lent: usize) -> Vec<u8> {
+    let mut buffer = vec![LENT; lent];
+    let (number, length) = match table::save(rack, &mut buffer) {
+        Ok(length) => (0, length as u16),
+        Err(refusal) => (refusal as u8, 0),
+    };
+    let [low, high] = length.to_le_bytes();
+    let report = vec![number, low, high, 0, 0];
+    [state_bytes(rack), report, buffer].concat()
+}

@@ -1,0 +1,142 @@
+// The layout of a state in a record, which the program's first lines describe.
+ghost use Prim.Native.Nat.{_+_, _≤_};
+use cards::Table;
+use rack::Bus;
+use rack::RackState;
+
+const K: usize = 0;
+
+const RULE: usize = 1;
+
+const SLOTS: usize = 2;
+
+const WAITING: usize = SLOTS + 64;
+
+const COUNTS: usize = WAITING + 64;
+
+const LAST: usize = COUNTS + 64;
+
+const HELD: usize = LAST + 1;
+
+const HOLDER: usize = HELD + 1;
+
+// Where the state ends, and what comes after it begins.
+pub(crate) const AFTER: usize = HOLDER + 1;
+
+// The state, a letter and a number.
+pub(crate) const RECORD: usize = AFTER + 2;
+
+// The state, and five bytes about the event or the save.
+const ANSWER: usize = AFTER + 5;
+
+// The 64 bytes of a record from at on.
+fn numbers_at(bytes: &[u8; RECORD], at: usize) -> [u8; 64]
+    requires { ⌜ at + 64 ≤ 197 ⌝ }
+{
+    let mut numbers = [0u8; 64];
+    for a in 0..64usize {
+        numbers[a] = bytes[at + a];
+    }
+    numbers
+}
+
+// The same as marks: 0 for no, anything else for yes.
+fn marks_at(bytes: &[u8; RECORD], at: usize) -> [bool; 64]
+    requires { ⌜ at + 64 ≤ 197 ⌝ }
+{
+    let mut marks = [false; 64];
+    for a in 0..64usize {
+        marks[a] = bytes[at + a] != 0;
+    }
+    marks
+}
+
+// The bus as a record tells it.
+fn bus_from(held: u8, holder: u8) -> Bus {
+    if held == 0 {
+        return Bus::Free;
+    }
+    Bus::Held(holder)
+}
+
+// The state at the front of a record.
+pub(crate) fn state_from(bytes: &[u8; RECORD]) -> RackState {
+    let slots = numbers_at(bytes, SLOTS);
+    let waiting = marks_at(bytes, WAITING);
+    let counts = numbers_at(bytes, COUNTS);
+    let bus = bus_from(bytes[HELD], bytes[HOLDER]);
+    RackState {
+        table: Table {
+            k: bytes[K],
+            rule: bytes[RULE],
+            slots,
+        },
+        waiting,
+        counts,
+        last: bytes[LAST],
+        bus,
+    }
+}
+
+// Puts 64 numbers into an answer from at on.
+fn put_numbers(out: &mut [u8; ANSWER], at: usize, numbers: [u8; 64])
+    requires { ⌜ at + 64 ≤ 197 ⌝ }
+{
+    for a in 0..64usize {
+        out[at + a] = numbers[a];
+    }
+}
+
+// The same for marks: 1 for yes, 0 for no.
+fn put_marks(out: &mut [u8; ANSWER], at: usize, marks: [bool; 64])
+    requires { ⌜ at + 64 ≤ 197 ⌝ }
+{
+    for a in 0..64usize {
+        out[at + a] = marks[a] as u8;
+    }
+}
+
+// 1 if the bus is held.
+fn is_held(bus: Bus) -> u8 {
+    match bus {
+        Bus::Free => 0,
+        Bus::Held(_) => 1,
+    }
+}
+
+// The holder of the bus, 0 if it is free.
+fn holder_of(bus: Bus) -> u8 {
+    match bus {
+        Bus::Free => 0,
+        Bus::Held(holder) => holder,
+    }
+}
+
+// An answer with the state at its front, and zeros after it.
+pub(crate) fn bytes_of(s: RackState) -> [u8; ANSWER] {
+    let mut out = [0u8; ANSWER];
+    let table = s.table;
+    let slots = table.slots;
+    let waiting = s.waiting;
+    let counts = s.counts;
+    let bus = s.bus;
+    out[K] = table.k;
+    out[RULE] = table.rule;
+    put_numbers(&mut out, SLOTS, slots);
+    put_marks(&mut out, WAITING, waiting);
+    put_numbers(&mut out, COUNTS, counts);
+    out[LAST] = s.last;
+    out[HELD] = is_held(bus);
+    out[HOLDER] = holder_of(bus);
+    out
+}
+
+// The low byte of a number of two bytes.
+pub(crate) fn low_byte(x: usize) -> u8 {
+    (x % 256) as u8
+}
+
+// The high byte of a number of two bytes.
+pub(crate) fn high_byte(x: usize) -> u8 {
+    (x / 256 % 256) as u8
+}

@@ -1,0 +1,92 @@
+// Takes states of a rack as bytes, each with an event or a save, and writes what the rack makes of each.
+//
+// A record in has 199 bytes. Its first 197 are a state:
+//   0    number width k
+//   1    rule
+//   2    the slot of each number, 64 bytes
+//   66   whether each number waits, 64 bytes: 0 for no, anything else for yes
+//   130  the waiting count of each number, 64 bytes
+//   194  last winner
+//   195  whether the bus is held: 0 for no, anything else for yes
+//   196  the holder
+// Then what to do with it:
+//   197  the letter: Q, A or R for an event, S for a save; any other letter is an event too, and is refused with 18
+//   198  the number of the event, or how many bytes are lent to the save; each of them holds EE before (in hex)
+//
+// A record out has 202 bytes, and after a save those that were lent. Its first 197 are the state that the event returns, or the state that was
+// saved, laid out as above: yes is 1, and the holder of a free bus is 0. Then, for an event:
+//   197  answer
+//   198  winner
+//   199  settled lines, low byte first, 2 bytes
+//   201  stages
+// and for a save:
+//   197  answer
+//   198  length, low byte first, 2 bytes
+//   200  zeros, 2 bytes
+//   202  the bytes that were lent, as the save left them
+//
+// Each record is answered before the next is read. The program ends where the input ends or a record is short.
+use layout::AFTER;
+use layout::RECORD;
+use layout::bytes_of;
+use layout::high_byte;
+use layout::low_byte;
+use layout::state_from;
+use libc::STDIN_FILENO;
+use libc::STDOUT_FILENO;
+use rack::RackState;
+
+mod layout;
+
+// Writes what an event makes of the state; whether it could be written.
+fn answer_event(state: RackState, letter: u8, number: u8) -> bool {
+    let outcome = rack::event(state, letter, number);
+    let next = outcome.state;
+    let mut out = bytes_of(next);
+    out[AFTER] = outcome.answer;
+    out[AFTER + 1] = outcome.winner;
+    out[AFTER + 2] = low_byte(outcome.lines as usize);
+    out[AFTER + 3] = high_byte(outcome.lines as usize);
+    out[AFTER + 4] = outcome.stages;
+    io::write_all(STDOUT_FILENO, &out)
+}
+
+// Saves the state to the bytes lent, and writes the answer and those bytes; whether they could be written.
+fn answer_save(state: RackState, lent: &mut [u8]) -> bool {
+    let saved = rack::save(state, lent);
+    let mut out = bytes_of(state);
+    out[AFTER] = saved.answer;
+    out[AFTER + 1] = low_byte(saved.len);
+    out[AFTER + 2] = high_byte(saved.len);
+    io::write_all(STDOUT_FILENO, &out) && io::write_all(STDOUT_FILENO, lent)
+}
+
+// Lends so many bytes to a save, each of which holds EE.
+fn lend_to_save(state: RackState, number: u8) -> bool {
+    let mut buffer = [0xEEu8; 255];
+    let len = number as usize;
+    answer_save(state, &mut buffer[..len])
+}
+
+// Answers one record; whether the answer could be written.
+fn answer(bytes: &[u8; RECORD]) -> bool {
+    let state = state_from(bytes);
+    let letter = bytes[AFTER];
+    let number = bytes[AFTER + 1];
+    if letter == b'S' {
+        return lend_to_save(state, number);
+    }
+    answer_event(state, letter, number)
+}
+
+// A proved loop has to end, and nothing says that the input does: the loop counts its turns down from a number that no run uses up.
+fn main() {
+    let mut bytes = [0u8; RECORD];
+    let mut more = true;
+    let mut turns = u64::MAX;
+    while turns > 0 && more {
+        let len = io::read_full(STDIN_FILENO, &mut bytes);
+        more = len == RECORD && answer(&bytes);
+        turns -= 1;
+    }
+}
