@@ -13,7 +13,7 @@ static const struct screen_number screen_numbers[] = {
      "Look at the first two bytes, 01 00 in hex (od -t x1 FILE). If they differ, the file is no "
      "card table or was saved by other software: fetch the table that belongs to this rack."},
     {3, "F, N, k, rule or record length out of range, or N over 2^k - 1",
-     "Look at bytes 2 to 5 and 10 to 11: columns 2 to 16, cards 1 to 63, k 1 to 6, rule 0 to 2, "
+     "Look at bytes 2 to 5 and 10 to 11: columns 2 to 16, cards 1 to 63, k 1 to 6, rule 0 to 4, "
      "record length 2 to 64. If k is too small for the cards (k = 3 takes 7), raise k or take "
      "cards out."},
     {4, "offsets or file length break the layout",
@@ -51,14 +51,15 @@ static const struct screen_number screen_numbers[] = {
      "Start the rack anew: all counts begin at 0. Keep the table and the listing up to this line "
      "and report them, for somebody must see how the count got there."},
     {17, "state not well formed (before 11 to 16)",
-     "The memory of the rack does not fit its table. Load the table again. If the number comes "
-     "back, exchange the card that shows it."},
+     "The memory of the rack does not fit its table and rule: the waiting cards, counts, batch, "
+     "inhibited cards, last winner or holder. Load the table again. If the number comes back, "
+     "exchange the card that shows it."},
     {18, "trace line malformed",
      "Look at this line of the trace: Q, A or R, one space, two digits, a newline and nothing "
      "else; A has 00. Blank lines and line ends of Windows are malformed too."},
     {21, "m not 1 to 12",
-     "Give 1 to 12 lines: k for a fixed rack, k + 1 for round-robin, 2k for arrival. racklap "
-     "table shows k and the rule."},
+     "Give 1 to 12 lines: k under the rules fixed, batch and inhibit, k + 1 under round-robin, 2k "
+     "under arrival. racklap table shows k and the rule."},
     {22, "more than 64 competing numbers",
      "Count the competing numbers and leave some out: a rack has no more than 63 cards."},
     {23, "a number over 2^m - 1",

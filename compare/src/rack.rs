@@ -15,6 +15,10 @@ pub struct Rack {
     pub table: Table,
     pub waiting: [bool; 64],
     pub counts: [u8; 64],
+    /// Under rule 3 the cards that are granted before any other.
+    pub batch: [bool; 64],
+    /// Under rule 4 the cards that have released since the inhibitions were last cleared.
+    pub inhibited: [bool; 64],
     /// 0 if none yet.
     pub last_winner: u8,
     pub bus: Bus,
@@ -41,6 +45,8 @@ impl Rack {
             table,
             waiting: [false; 64],
             counts: [0; 64],
+            batch: [false; 64],
+            inhibited: [false; 64],
             last_winner: 0,
             bus: Bus::Free,
         }
@@ -60,6 +66,7 @@ impl Rack {
             && (self.last_winner == 0 || self.table.has(self.last_winner))
             && self.holder_is_well_formed()
             && (0..64).all(|card| self.count_is_well_formed(card))
+            && (0..64).all(|card| self.sets_are_well_formed(card))
     }
 
     fn holder_is_well_formed(&self) -> bool {
@@ -79,12 +86,41 @@ impl Rack {
         self.counts[usize::from(card)] <= most
     }
 
+    fn sets_are_well_formed(&self, card: u8) -> bool {
+        let rule = rule(self.table.rule);
+        let may_be_in_batch = rule.batches && self.table.has(card) && self.waits(card);
+        let may_be_inhibited = rule.inhibits && self.table.has(card);
+        (may_be_in_batch || !self.batch[usize::from(card)])
+            && (may_be_inhibited || !self.inhibited[usize::from(card)])
+    }
+
     pub fn waits(&self, card: u8) -> bool {
         self.waiting[usize::from(card)]
     }
 
     pub fn waiting_cards(&self) -> Vec<u8> {
         (0..64).filter(|&card| self.waits(card)).collect()
+    }
+
+    fn competitors(&self) -> Vec<u8> {
+        let competes = rule(self.table.rule).competes;
+        let mut waiting = self.waiting_cards();
+        waiting.retain(|&card| competes(self, card));
+        waiting
+    }
+
+    /// Cards wait and none of them competes, so that an arbitration forms a new batch or clears
+    /// the inhibitions first.
+    pub fn is_to_be_renewed(&self) -> bool {
+        !self.waiting_cards().is_empty() && self.competitors().is_empty()
+    }
+
+    fn renewed(&self) -> Rack {
+        let mut next = *self;
+        if self.is_to_be_renewed() {
+            (rule(self.table.rule).renew)(&mut next);
+        }
+        next
     }
 
     /// The state after an event with its outcome, or the refusal, which leaves the state as it is.
@@ -121,6 +157,7 @@ impl Rack {
         }
         let mut next = *self;
         next.bus = Bus::Free;
+        next.inhibited[usize::from(card)] = rule(self.table.rule).inhibits;
         Ok((next, Outcome::default()))
     }
 
@@ -128,13 +165,13 @@ impl Rack {
         if self.bus != Bus::Free {
             return Err(13);
         }
-        let competitors = self.waiting_cards();
-        if competitors.is_empty() {
+        if self.waiting_cards().is_empty() {
             return Err(14);
         }
         let rule = rule(self.table.rule);
-        let outcome = self.settle(&rule, &competitors);
-        let next = self.grant(&rule, outcome.winner)?;
+        let ready = self.renewed();
+        let outcome = ready.settle(rule, &ready.competitors());
+        let next = ready.grant(rule, outcome.winner)?;
         Ok((next, outcome))
     }
 
@@ -158,6 +195,7 @@ impl Rack {
         let mut next = *self;
         next.waiting[usize::from(winner)] = false;
         next.counts[usize::from(winner)] = 0;
+        next.batch[usize::from(winner)] = false;
         next.bus = Bus::Held(winner);
         next.last_winner = winner;
         if rule.counts {

@@ -1,4 +1,5 @@
-//! The three rules: what each says of the lines, the competing numbers and the losers' counts.
+//! The five rules: what each says of the lines, the competing numbers, the losers' counts and of
+//! who competes.
 
 use crate::rack::Rack;
 
@@ -9,12 +10,24 @@ pub struct Rule {
     pub number: fn(rack: &Rack, card: u8) -> u16,
     /// Do the losers' counts grow?
     pub counts: bool,
+    /// Does a waiting card compete?
+    pub competes: fn(rack: &Rack, card: u8) -> bool,
+    /// What an arbitration does first where cards wait and none of them competes.
+    pub renew: fn(rack: &mut Rack),
+    /// Is there a batch?
+    pub batches: bool,
+    /// Does a release inhibit the card?
+    pub inhibits: bool,
 }
 
 const FIXED: Rule = Rule {
     lines: |k| u32::from(k),
     number: |_, card| u16::from(card),
     counts: false,
+    competes: |_, _| true,
+    renew: |_| {},
+    batches: false,
+    inhibits: false,
 };
 
 const ROUND_ROBIN: Rule = Rule {
@@ -23,7 +36,7 @@ const ROUND_ROBIN: Rule = Rule {
         let ahead = u16::from(card < rack.last_winner);
         u16::from(card) + (ahead << rack.table.k)
     },
-    counts: false,
+    ..FIXED
 };
 
 const ARRIVAL: Rule = Rule {
@@ -33,14 +46,29 @@ const ARRIVAL: Rule = Rule {
         u16::from(card) + (count << rack.table.k)
     },
     counts: true,
+    ..FIXED
 };
 
+const BATCH: Rule = Rule {
+    competes: |rack, card| rack.batch[usize::from(card)],
+    renew: |rack| rack.batch = rack.waiting,
+    batches: true,
+    ..FIXED
+};
+
+const INHIBIT: Rule = Rule {
+    competes: |rack, card| !rack.inhibited[usize::from(card)],
+    renew: |rack| rack.inhibited = [false; 64],
+    inhibits: true,
+    ..FIXED
+};
+
+const RULES: [Rule; 5] = [FIXED, ROUND_ROBIN, ARRIVAL, BATCH, INHIBIT];
+
+pub const GREATEST_RULE: u8 = RULES.len() as u8 - 1;
+
 /// The rule of a table that passed its check.
-pub fn rule(number: u8) -> Rule {
-    match number {
-        0 => FIXED,
-        1 => ROUND_ROBIN,
-        2 => ARRIVAL,
-        _ => panic!("there is no rule {number}"),
-    }
+pub fn rule(number: u8) -> &'static Rule {
+    assert!(number <= GREATEST_RULE, "there is no rule {number}");
+    &RULES[usize::from(number)]
 }

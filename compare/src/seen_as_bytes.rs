@@ -3,8 +3,8 @@
 use crate::rack::{Bus, Event, Outcome, Rack};
 use crate::table::{self, Table};
 
-/// k, the rule, three arrays by number, the last winner, and two bytes for the bus.
-pub const STATE: usize = 2 + 3 * 64 + 3;
+/// k, the rule, five arrays by number, the last winner, and two bytes for the bus.
+pub const STATE: usize = 2 + 5 * 64 + 3;
 /// A state, a letter and a number.
 pub const RECORD: usize = STATE + 2;
 /// A state and five bytes about what became of it; after a save the lent bytes follow.
@@ -23,19 +23,28 @@ fn numbers(bytes: &[u8]) -> [u8; 64] {
     bytes.try_into().expect("64 bytes")
 }
 
-/// The state at the front of a record. Anything but 0 is yes.
+/// Anything but 0 is yes.
+fn set(bytes: &[u8]) -> [bool; 64] {
+    numbers(bytes).map(|byte| byte != 0)
+}
+
+/// The state at the front of a record.
 pub fn rack(bytes: &[u8]) -> Rack {
     let (slots, bytes_after) = bytes[2..].split_at(64);
     let (waiting, bytes_after) = bytes_after.split_at(64);
     let (counts, bytes_after) = bytes_after.split_at(64);
+    let (batch, bytes_after) = bytes_after.split_at(64);
+    let (inhibited, bytes_after) = bytes_after.split_at(64);
     Rack {
         table: Table {
             k: bytes[0],
             rule: bytes[1],
             slots: numbers(slots),
         },
-        waiting: numbers(waiting).map(|byte| byte != 0),
+        waiting: set(waiting),
         counts: numbers(counts),
+        batch: set(batch),
+        inhibited: set(inhibited),
         last_winner: bytes_after[0],
         bus: match bytes_after[1] {
             0 => Bus::Free,
@@ -49,6 +58,8 @@ fn state_bytes(rack: &Rack) -> Vec<u8> {
     bytes.extend(rack.table.slots);
     bytes.extend(rack.waiting.map(u8::from));
     bytes.extend(rack.counts);
+    bytes.extend(rack.batch.map(u8::from));
+    bytes.extend(rack.inhibited.map(u8::from));
     bytes.push(rack.last_winner);
     bytes.extend(match rack.bus {
         Bus::Free => [0, 0],

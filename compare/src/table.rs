@@ -1,6 +1,7 @@
 //! The card table: read by column name, saved in one plain form.
 
 use crate::rack::Rack;
+use crate::rules::GREATEST_RULE;
 
 pub const HEADER: usize = 12;
 pub const LONGEST_FILE: usize = 8192;
@@ -87,7 +88,7 @@ pub fn greatest_number(k: u8) -> u8 {
 fn counts_in_range(cards: usize, k: u8, rule: u8) -> bool {
     (1..=63).contains(&cards)
         && (1..=6).contains(&k)
-        && rule <= 2
+        && rule <= GREATEST_RULE
         && cards <= usize::from(greatest_number(k))
 }
 

@@ -37,7 +37,7 @@ static void draw(unsigned *entries, unsigned count, unsigned most)
 
 static struct rack random_rack(void)
 {
-    struct rack rack = {.k = 1 + below(6), .rule = below(3)};
+    struct rack rack = {.k = 1 + below(6), .rule = below(5)};
     unsigned most = (1u << rack.k) - 1;
     rack.cards = 1 + below(below(4) != 0 && most > 8 ? 8 : most);
     draw(rack.number, rack.cards, most);

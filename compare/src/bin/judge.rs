@@ -61,16 +61,23 @@ fn repeat_case(kinds: &[Kind], name: &str, seed: u64) -> Result<Report, String> 
     Ok(report)
 }
 
-/// A number that no case met is a failure of the cases.
-fn judge_numbers_met(met: &Met, seed: u64, report: &mut Report) {
+/// What no case met is a failure of the cases.
+fn judge_met(name: &str, times: u64, seed: u64, report: &mut Report) {
+    let outcome = match times {
+        0 => Err("never met".to_string()),
+        _ => Ok(()),
+    };
+    report.test(name, outcome, &format!("compare/run --seed {seed}"));
+}
+
+fn judge_all_met(met: &Met, seed: u64, report: &mut Report) {
     for (number, times) in met.all() {
         println!("number {number:2} met {times} times");
-        let outcome = match times {
-            0 => Err("never met".to_string()),
-            _ => Ok(()),
-        };
-        let repeat = format!("compare/run --seed {seed}");
-        report.test(&format!("number-{number}-is-met"), outcome, &repeat);
+        judge_met(&format!("number-{number}-is-met"), times, seed, report);
+    }
+    for (kind, times) in met.bounds_reached() {
+        println!("{kind} reached its bound {times} times");
+        judge_met(&format!("{kind}-is-reached"), times, seed, report);
     }
 }
 
@@ -86,7 +93,7 @@ fn run(options: Options) -> Result<Report, String> {
     for group in &groups {
         group.run(options.seed, &mut met, &mut report);
     }
-    judge_numbers_met(&met, options.seed, &mut report);
+    judge_all_met(&met, options.seed, &mut report);
     Ok(report)
 }
 

@@ -12,12 +12,18 @@ mod batches;
 mod bus;
 #[path = "../tables/comparison.rs"]
 mod comparison;
+#[path = "../tables/controls.rs"]
+mod controls;
+#[path = "../tables/load.rs"]
+mod load;
 #[path = "../tables/options.rs"]
 mod options;
 #[path = "../tables/published.rs"]
 mod published;
 #[path = "../tables/row.rs"]
 mod row;
+#[path = "../tables/runs.rs"]
+mod runs;
 #[path = "../tables/tolerance.rs"]
 mod tolerance;
 

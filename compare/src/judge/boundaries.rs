@@ -95,7 +95,7 @@ fn counts() -> Vec<Kind> {
 
 fn rules_and_lengths() -> Vec<Kind> {
     let mut kinds = Vec::new();
-    for (rule, expected) in [(0, 0), (1, 0), (2, 0), (3, 3), (255, 3)] {
+    for (rule, expected) in [(0, 0), (1, 0), (2, 0), (3, 0), (4, 0), (5, 3), (255, 3)] {
         let name = format!("rule-{rule}");
         kinds.push(shaped(&name, expected, move |shape| shape.rule = rule));
     }

@@ -129,12 +129,12 @@ fn layout_fault(file: &mut Vec<u8>, draft: &Draft, rng: &mut Rng) {
 fn range_fault(file: &mut [u8], draft: &Draft, rng: &mut Rng) {
     let over_k = 1 << draft.shape.k;
     let long = rng.between(65, 65535) as usize;
-    let bad_rule = rng.between(3, 255) as u8;
+    let bad_rule = rng.between(5, 255) as u8;
     match rng.below(5) {
         0 => file[2] = *rng.pick(&[0, 1, 17, 255]),
         1 => file[3] = *rng.pick(&[0, over_k, 64, 255]),
         2 => file[4] = *rng.pick(&[0, 7, 8, 255]),
-        3 => file[5] = *rng.pick(&[3, 4, 255, bad_rule]),
+        3 => file[5] = *rng.pick(&[5, 6, 255, bad_rule]),
         _ => put_two_bytes(file, 10, *rng.pick(&[0, 1, 65, 256 + 2, long])),
     }
 }

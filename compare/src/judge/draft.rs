@@ -2,6 +2,7 @@
 
 use super::guarded::noise;
 use crate::rng::Rng;
+use crate::rules::GREATEST_RULE;
 use crate::table::{greatest_number, HEADER};
 
 /// The counts and widths of a table file.
@@ -44,12 +45,16 @@ fn edged(low: usize, high: usize, rng: &mut Rng) -> usize {
     }
 }
 
+pub fn any_rule(rng: &mut Rng) -> u8 {
+    rng.between(0, u64::from(GREATEST_RULE)) as u8
+}
+
 impl Shape {
     pub fn sound(rng: &mut Rng) -> Shape {
         let k = rng.between(1, 6) as u8;
         Shape {
             k,
-            rule: rng.below(3) as u8,
+            rule: any_rule(rng),
             cards: edged(1, usize::from(greatest_number(k)), rng),
             columns: edged(2, 16, rng),
             length: edged(2, 64, rng),

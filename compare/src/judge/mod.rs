@@ -7,6 +7,7 @@ pub mod damage;
 pub mod draft;
 pub mod exhaustive;
 pub mod expect;
+pub mod grants_during_waits;
 pub mod guarded;
 pub mod kind;
 pub mod met;
@@ -14,6 +15,7 @@ pub mod named_settlings;
 pub mod named_tables;
 pub mod named_traces;
 pub mod settlings;
+pub mod small_racks;
 pub mod state_faults;
 pub mod state_maker;
 pub mod states;
@@ -52,9 +54,15 @@ pub fn groups(sizes: &Sizes) -> Vec<Group> {
         Group::once("known traces", named_traces::kinds()),
         Group::once("well-formed states", well_formed::kinds(&program)),
         Group::once("exhaustive", exhaustive::kinds()),
+        Group::once("small racks", small_racks::kinds()),
         Group::of("settlings", sizes.settlings, settlings::kinds()),
         Group::of("tables", sizes.tables, tables::kinds()),
         Group::of("traces", sizes.traces, traces::kinds()),
+        Group::of(
+            "grants during waits",
+            sizes.traces.div_ceil(5),
+            grants_during_waits::kinds(),
+        ),
         Group::of("states", sizes.states, states::kinds(&program)),
     ]
 }

@@ -114,6 +114,9 @@ pub fn kinds(program: &Shared) -> Vec<Kind> {
             file_with(2, 0, &[(1, 1), (2, 2), (3, 3), (3, 4)]),
             3,
         ),
+        checked("rule-3-batch", file_with(3, 3, &[(2, 1), (5, 2)]), 0),
+        checked("rule-4-inhibit", file_with(3, 4, &[(2, 1), (5, 2)]), 0),
+        checked("rule-5", file_with(3, 5, &[(2, 1), (5, 2)]), 3),
         checked("file-of-11-bytes", WORKED_TABLE[..11].to_vec(), 1),
     ];
     kinds.extend(saves(program));

@@ -48,6 +48,54 @@ R 05 00 00 0000 00
 A 00 00 02 0018 03
 ";
 
+/// Rule 3: a card that asks while a batch is served waits for the next one, also one with a
+/// greater number. The holder that asks again is in the next batch too.
+const BATCH_LISTING: &str = "\
+Q 02 00 00 0000 00
+Q 05 00 00 0000 00
+A 00 00 05 0005 03
+Q 07 00 00 0000 00
+R 05 00 00 0000 00
+A 00 00 02 0002 01
+Q 02 00 00 0000 00
+R 02 00 00 0000 00
+A 00 00 07 0007 01
+Q 06 00 00 0000 00
+R 07 00 00 0000 00
+A 00 00 02 0002 01
+R 02 00 00 0000 00
+A 00 00 06 0006 01
+R 06 00 00 0000 00
+A 00 14 00 0000 00
+";
+
+/// Rule 4: card 7 asks again and is passed over until 2 and 7 wait, both inhibited. Clearing also
+/// frees card 6, which doesn't wait. The refused arbitration at the end clears nothing.
+const INHIBIT_LISTING: &str = "\
+Q 02 00 00 0000 00
+Q 07 00 00 0000 00
+A 00 00 07 0007 01
+Q 07 00 00 0000 00
+R 07 00 00 0000 00
+A 00 00 02 0002 01
+Q 06 00 00 0000 00
+R 02 00 00 0000 00
+A 00 00 06 0006 01
+R 06 00 00 0000 00
+Q 02 00 00 0000 00
+A 00 00 07 0007 01
+Q 06 00 00 0000 00
+R 07 00 00 0000 00
+A 00 00 06 0006 01
+R 06 00 00 0000 00
+A 00 00 02 0002 01
+R 02 00 00 0000 00
+A 00 14 00 0000 00
+Q 05 00 00 0000 00
+Q 07 00 00 0000 00
+A 00 00 05 0005 01
+";
+
 /// The trace of a listing is the first four characters of each line.
 fn trace_of(listing: &str) -> Vec<u8> {
     let lines = listing.lines().map(|line| format!("{}\n", &line[..4]));
@@ -149,6 +197,16 @@ pub fn kinds() -> Vec<Kind> {
     let cards = [(2, 1), (5, 2), (6, 3), (7, 4)];
     kinds.extend(listed("P8-listing", file_with(3, 0, &cards), P8_LISTING));
     kinds.extend(listed("P10-listing", file_with(3, 2, &cards), P10_LISTING));
+    kinds.extend(listed(
+        "batch-listing",
+        file_with(3, 3, &cards),
+        BATCH_LISTING,
+    ));
+    kinds.extend(listed(
+        "inhibit-listing",
+        file_with(3, 4, &cards),
+        INHIBIT_LISTING,
+    ));
     kinds.push(Kind::named("worked-listing-line-by-line", |met| {
         converse(&WORKED_TABLE, &trace_of(WORKED_LISTING), || TRACE_LINE, met)
     }));

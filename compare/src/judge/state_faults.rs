@@ -2,6 +2,7 @@
 
 use crate::rack::{Bus, Rack};
 use crate::rng::Rng;
+use crate::rules::GREATEST_RULE;
 use crate::table::greatest_number;
 
 pub type Fault = (&'static str, fn(&mut Rack, &mut Rng));
@@ -36,6 +37,22 @@ fn over(low: u8, rng: &mut Rng) -> u8 {
     *rng.pick(&[low, 255, any])
 }
 
+/// Puts the rack under a rule. What the old rule counted and marked would be more faults, so it goes.
+fn put_under(rule: u8, rack: &mut Rack) {
+    if rack.table.rule != rule {
+        rack.table.rule = rule;
+        rack.counts = [0; 64];
+        rack.batch = [false; 64];
+        rack.inhibited = [false; 64];
+    }
+}
+
+/// Puts the rack under any rule but this one.
+fn put_under_another(than: u8, rack: &mut Rack, rng: &mut Rng) {
+    let others: Vec<u8> = (0..=GREATEST_RULE).filter(|&rule| rule != than).collect();
+    put_under(*rng.pick(&others), rack);
+}
+
 fn no_card(rack: &mut Rack, _: &mut Rng) {
     *rack = Rack::fresh(rack.table);
     rack.table.slots = [0; 64];
@@ -67,7 +84,7 @@ fn table_faults() -> Vec<Fault> {
     vec![
         ("k-0", |rack, _| rack.table.k = 0),
         ("k-over-6", |rack, rng| rack.table.k = over(7, rng)),
-        ("rule-over-2", |rack, rng| rack.table.rule = over(3, rng)),
+        ("rule-over-4", |rack, rng| put_under(over(5, rng), rack)),
         ("no-card", no_card),
         ("slot-of-number-0", |rack, _| {
             rack.table.slots[0] = free_slot(rack)
@@ -126,31 +143,22 @@ fn winner_faults() -> Vec<Fault> {
     ]
 }
 
-/// Rule 2, under which no count that is left is a fault.
-fn with_counts(rack: &mut Rack) {
-    if rack.table.rule != 2 {
-        rack.table.rule = 2;
-        rack.counts = [0; 64];
-    }
-}
-
 fn count_without_waiting(rack: &mut Rack, rng: &mut Rng) {
-    with_counts(rack);
+    put_under(2, rack);
     let card = usize::from(any_card(rack, rng));
     rack.waiting[card] = false;
     rack.counts[card] = over(1, rng);
 }
 
 fn count_over_range(rack: &mut Rack, rng: &mut Rng) {
-    with_counts(rack);
+    put_under(2, rack);
     let card = usize::from(any_card(rack, rng));
     rack.waiting[card] = true;
     rack.counts[card] = over(greatest_number(rack.table.k.clamp(1, 6)) + 1, rng);
 }
 
 fn count_under_another_rule(rack: &mut Rack, rng: &mut Rng) {
-    rack.table.rule = rng.below(2) as u8;
-    rack.counts = [0; 64];
+    put_under_another(2, rack, rng);
     let card = usize::from(any_card(rack, rng));
     rack.waiting[card] = true;
     rack.counts[card] = over(1, rng);
@@ -160,7 +168,7 @@ fn count_faults() -> Vec<Fault> {
     vec![
         ("count-without-waiting", count_without_waiting),
         ("count-of-a-stranger", |rack, rng| {
-            with_counts(rack);
+            put_under(2, rack);
             let stranger = usize::from(stranger(rack, rng));
             rack.counts[stranger] = over(1, rng);
         }),
@@ -169,6 +177,53 @@ fn count_faults() -> Vec<Fault> {
     ]
 }
 
+/// This one can't come alone: if the stranger waits, that is a fault too, and if it doesn't,
+/// the batch has a card that doesn't wait.
+fn batch_of_a_stranger(rack: &mut Rack, rng: &mut Rng) {
+    put_under(3, rack);
+    let stranger = usize::from(stranger(rack, rng));
+    rack.waiting[stranger] = rng.chance(1, 2);
+    rack.batch[stranger] = true;
+}
+
+fn batch_without_waiting(rack: &mut Rack, rng: &mut Rng) {
+    put_under(3, rack);
+    let card = usize::from(any_card(rack, rng));
+    rack.waiting[card] = false;
+    rack.batch[card] = true;
+}
+
+fn batch_under_another_rule(rack: &mut Rack, rng: &mut Rng) {
+    put_under_another(3, rack, rng);
+    let card = usize::from(any_card(rack, rng));
+    rack.waiting[card] = true;
+    rack.batch[card] = true;
+}
+
+fn set_faults() -> Vec<Fault> {
+    vec![
+        ("batch-of-a-stranger", batch_of_a_stranger),
+        ("batch-without-waiting", batch_without_waiting),
+        ("batch-under-another-rule", batch_under_another_rule),
+        ("inhibition-of-a-stranger", |rack, rng| {
+            put_under(4, rack);
+            let stranger = usize::from(stranger(rack, rng));
+            rack.inhibited[stranger] = true;
+        }),
+        ("inhibition-under-another-rule", |rack, rng| {
+            put_under_another(4, rack, rng);
+            let card = usize::from(any_card(rack, rng));
+            rack.inhibited[card] = true;
+        }),
+    ]
+}
+
 pub fn faults() -> Vec<Fault> {
-    [table_faults(), winner_faults(), count_faults()].concat()
+    [
+        table_faults(),
+        winner_faults(),
+        count_faults(),
+        set_faults(),
+    ]
+    .concat()
 }

@@ -28,10 +28,34 @@ fn begin_waiting(rack: &mut Rack, rng: &mut Rng) {
     }
 }
 
+/// None, some or all of the cards that wait are in the batch.
+fn form_batch(rack: &mut Rack, rng: &mut Rng) {
+    let quarters = rng.between(0, 4);
+    for card in rack.waiting_cards() {
+        rack.batch[usize::from(card)] = rng.chance(quarters, 4);
+    }
+}
+
+/// None, some or all of the cards are inhibited. Now and then all that wait are, so that an
+/// arbitration has to clear the inhibitions.
+fn inhibit(rack: &mut Rack, rng: &mut Rng) {
+    let quarters = rng.between(0, 4);
+    let all_that_wait = rng.chance(1, 4);
+    for card in rack.table.numbers() {
+        let at_random = rng.chance(quarters, 4);
+        rack.inhibited[usize::from(card)] = at_random || all_that_wait && rack.waits(card);
+    }
+}
+
 /// A well-formed state of any table with this rule.
 pub fn sound(rule: u8, rng: &mut Rng) -> Rack {
     let (mut rack, _) = Rack::load(&table_file(rule, rng));
     begin_waiting(&mut rack, rng);
+    match rule {
+        3 => form_batch(&mut rack, rng),
+        4 => inhibit(&mut rack, rng),
+        _ => {}
+    }
     if rng.chance(3, 4) {
         rack.last_winner = *rng.pick(&rack.table.numbers());
         if rng.chance(1, 3) {
@@ -39,6 +63,16 @@ pub fn sound(rule: u8, rng: &mut Rng) -> Rack {
         }
     }
     rack
+}
+
+/// A well-formed state whose arbitration forms a new batch, or clears the inhibitions.
+pub fn to_be_renewed(rule: u8, rng: &mut Rng) -> Rack {
+    loop {
+        let rack = sound(rule, rng);
+        if rack.is_to_be_renewed() && rack.bus == Bus::Free {
+            return rack;
+        }
+    }
 }
 
 /// A number that an event may name, in the table or not.

@@ -1,24 +1,28 @@
 //! Generated states, well formed and not, through `rackstate`.
 
 use super::asked::{hold, same};
+use super::draft::any_rule;
 use super::expect::expect;
 use super::guarded::noise;
 use super::kind::Kind;
 use super::met::Met;
 use super::state_faults::{faults, Fault};
-use super::state_maker::{asks, sound};
+use super::state_maker::{asks, sound, to_be_renewed};
 use crate::rack::Rack;
 use crate::rackstate::{self, Shared};
 use crate::rng::Rng;
+use crate::rules::GREATEST_RULE;
 use crate::seen_as_bytes::{answer, answer_length, ask, number_of, rack, record, RECORD, STATE};
+use std::ops::Range;
 
-const WAITING: std::ops::Range<usize> = 2 + 64..2 + 2 * 64;
+const WAITING: Range<usize> = 2 + 64..2 + 2 * 64;
+const BATCH_AND_INHIBITED: Range<usize> = 2 + 3 * 64..2 + 5 * 64;
 const HELD: usize = STATE - 2;
 const HOLDER: usize = STATE - 1;
 
 /// The same state said otherwise: yes is anything but 0, and a free bus has no holder.
 fn disguised(mut record: Vec<u8>, rng: &mut Rng) -> Vec<u8> {
-    for at in WAITING.chain([HELD]) {
+    for at in WAITING.chain(BATCH_AND_INHIBITED).chain([HELD]) {
         if record[at] != 0 && rng.chance(1, 2) {
             record[at] = rng.between(1, 255) as u8;
         }
@@ -67,11 +71,25 @@ fn well_formed(rule: u8, program: &Shared) -> Kind {
     })
 }
 
+/// The batch is made anew, or the inhibitions are cleared, before the cards compete.
+fn renewing(rule: u8, program: &Shared) -> Kind {
+    let program = program.clone();
+    Kind::new(format!("state-renewing-rule-{rule}"), 8, move |rng, met| {
+        let records = records(&to_be_renewed(rule, rng), rng);
+        for (record, answer) in records.iter().zip(hold(&program, &records, met)?) {
+            if ask(record).letter == b'A' {
+                expect(number_of(&answer), 0)?;
+            }
+        }
+        Ok(())
+    })
+}
+
 /// One thing that a well-formed state must be is broken.
 fn ill_formed((name, fault): Fault, program: &Shared) -> Kind {
     let program = program.clone();
     Kind::new(format!("state-ill-formed-{name}"), 4, move |rng, met| {
-        let mut rack = sound(rng.below(3) as u8, rng);
+        let mut rack = sound(any_rule(rng), rng);
         fault(&mut rack, rng);
         hold_refusing(&rack, &program, rng, met)
     })
@@ -81,7 +99,7 @@ fn ill_formed((name, fault): Fault, program: &Shared) -> Kind {
 fn faults_together(program: &Shared) -> Kind {
     let program = program.clone();
     Kind::new("state-faults-together", 20, move |rng, met| {
-        let mut rack = sound(rng.below(3) as u8, rng);
+        let mut rack = sound(any_rule(rng), rng);
         for _ in 0..rng.between(2, 4) {
             let (_, fault) = *rng.pick(&faults());
             fault(&mut rack, rng);
@@ -94,7 +112,7 @@ fn faults_together(program: &Shared) -> Kind {
 fn spoilt(program: &Shared) -> Kind {
     let program = program.clone();
     Kind::new("state-spoilt", 20, move |rng, met| {
-        let mut records = records(&sound(rng.below(3) as u8, rng), rng);
+        let mut records = records(&sound(any_rule(rng), rng), rng);
         for record in &mut records {
             for _ in 0..rng.between(1, 3) {
                 let at = rng.below(STATE as u64) as usize;
@@ -117,7 +135,7 @@ fn noisy(program: &Shared) -> Kind {
 /// Records of several states, and at the end a part of one.
 fn several(rng: &mut Rng) -> (Vec<Vec<u8>>, Vec<u8>) {
     let whole: Vec<Vec<u8>> = (0..rng.between(1, 20))
-        .flat_map(|_| records(&sound(rng.below(3) as u8, rng), rng))
+        .flat_map(|_| records(&sound(any_rule(rng), rng), rng))
         .collect();
     let cut = *rng.pick(&[0, 1, RECORD - 1]);
     let part = whole[0][..cut].to_vec();
@@ -152,7 +170,10 @@ fn in_pieces() -> Kind {
 }
 
 pub fn kinds(program: &Shared) -> Vec<Kind> {
-    let mut kinds: Vec<Kind> = (0..3).map(|rule| well_formed(rule, program)).collect();
+    let mut kinds: Vec<Kind> = (0..=GREATEST_RULE)
+        .map(|rule| well_formed(rule, program))
+        .collect();
+    kinds.extend([3, 4].map(|rule| renewing(rule, program)));
     kinds.extend(faults().into_iter().map(|fault| ill_formed(fault, program)));
     kinds.extend([faults_together(program), spoilt(program), noisy(program)]);
     kinds.extend([in_one_go(), in_pieces()]);

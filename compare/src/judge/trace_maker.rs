@@ -2,7 +2,7 @@
 
 use super::draft::{Draft, Shape};
 use crate::listing::event;
-use crate::rack::{Bus, Rack};
+use crate::rack::{Bus, Event, Rack};
 use crate::rng::Rng;
 use crate::table::greatest_number;
 
@@ -26,6 +26,8 @@ pub struct Maker {
     rack: Rack,
     cards: Vec<u8>,
     trace: Vec<u8>,
+    /// How often a batch was formed or the inhibitions were cleared.
+    renewals: u64,
 }
 
 impl Maker {
@@ -35,6 +37,7 @@ impl Maker {
             cards: rack.table.numbers(),
             rack,
             trace: Vec::new(),
+            renewals: 0,
         }
     }
 
@@ -51,6 +54,8 @@ impl Maker {
         self.trace.extend(line.as_bytes());
         let event = event(line.as_bytes()).expect("a made line is well formed");
         if let Ok((next, _)) = self.rack.after(event) {
+            let renewed = event == Event::Arbitrate && self.rack.is_to_be_renewed();
+            self.renewals += u64::from(renewed);
             self.rack = next;
         }
     }
@@ -109,6 +114,35 @@ impl Maker {
             self.push('Q', winner);
         }
     }
+
+    fn grant_and_release(&mut self) {
+        self.push('A', 0);
+        self.push('R', self.rack.last_winner);
+    }
+
+    /// Grants until nobody waits, and one arbitration more, which is refused.
+    fn drain(&mut self) {
+        while !self.rack.waiting_cards().is_empty() {
+            self.grant_and_release();
+        }
+        self.push('A', 0);
+    }
+
+    /// Some cards ask on a free bus and one is granted. Mostly it asks again. Seldom all who wait
+    /// are granted after that.
+    fn crowd(&mut self, rng: &mut Rng) {
+        for _ in 0..rng.between(1, 4) {
+            let card = *rng.pick(&self.cards);
+            self.push('Q', card);
+        }
+        match rng.below(4) {
+            0 => self.grant_and_release(),
+            other => self.grant_and_ask_again(other == 1),
+        }
+        if rng.chance(1, 20) {
+            self.drain();
+        }
+    }
 }
 
 /// Sensible lines with some others among them.
@@ -158,6 +192,25 @@ pub fn asks_again(file: &[u8], lines: usize, rng: &mut Rng) -> Vec<u8> {
         } else {
             maker.sensible(rng);
         }
+    }
+    maker.trace()
+}
+
+/// Many ask, and most of them again and again.
+pub fn crowded(file: &[u8], lines: usize, rng: &mut Rng) -> Vec<u8> {
+    let mut maker = Maker::new(file);
+    while maker.lines() < lines {
+        maker.crowd(rng);
+    }
+    maker.trace()
+}
+
+/// Many ask, until this often a batch was formed or the inhibitions were cleared. Only for a rule
+/// that has the one or the other.
+pub fn renewing(file: &[u8], renewals: u64, rng: &mut Rng) -> Vec<u8> {
+    let mut maker = Maker::new(file);
+    while maker.renewals < renewals {
+        maker.crowd(rng);
     }
     maker.trace()
 }

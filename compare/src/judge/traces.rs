@@ -2,15 +2,18 @@
 
 use super::conversation::converse;
 use super::damage::damaged;
-use super::draft::{Draft, Shape};
+use super::draft::{any_rule, Draft, Shape};
 use super::expect::shown;
 use super::guarded::noise;
 use super::kind::Kind;
 use super::met::Met;
-use super::trace_maker::{asks_again, blind, full_table_file, mixed, saturated, table_file};
+use super::trace_maker::{
+    asks_again, blind, full_table_file, mixed, renewing, saturated, table_file,
+};
 use crate::listing::{self, LISTING_LINE, TRACE_LINE};
 use crate::racktrace;
 use crate::rng::Rng;
+use crate::rules::GREATEST_RULE;
 use crate::table::LONGEST_FILE;
 
 /// One run of the program against the reference's listing.
@@ -61,7 +64,7 @@ fn short(rng: &mut Rng) -> usize {
 }
 
 fn with_rule(name: &str, weight: u64, make: MakeTrace) -> Vec<Kind> {
-    (0..3)
+    (0..=GREATEST_RULE)
         .map(|rule| {
             Kind::new(
                 format!("trace-{name}-rule-{rule}"),
@@ -77,7 +80,7 @@ fn with_rule(name: &str, weight: u64, make: MakeTrace) -> Vec<Kind> {
 }
 
 fn full_rack() -> Vec<Kind> {
-    (0..3)
+    (0..=GREATEST_RULE)
         .map(|rule| {
             Kind::new(format!("trace-63-cards-rule-{rule}"), 5, move |rng, met| {
                 let file = full_table_file(rule, rng);
@@ -90,10 +93,30 @@ fn full_rack() -> Vec<Kind> {
         .collect()
 }
 
+/// Batch follows batch under rule 3, and the inhibitions are cleared again and again under rule 4.
+fn renewals() -> Vec<Kind> {
+    [3, 4]
+        .map(|rule| {
+            Kind::new(
+                format!("trace-renewing-rule-{rule}"),
+                15,
+                move |rng, met| {
+                    let file = match rng.chance(1, 10) {
+                        true => full_table_file(rule, rng),
+                        false => table_file(rule, rng),
+                    };
+                    let trace = renewing(&file, rng.between(2, 20), rng);
+                    hold(Some(&file), &trace, met)
+                },
+            )
+        })
+        .into()
+}
+
 /// Some hundred thousand bytes.
 fn long() -> Kind {
     Kind::new("trace-long", 1, |rng, met| {
-        let file = table_file(rng.below(3) as u8, rng);
+        let file = table_file(any_rule(rng), rng);
         let make = *rng.pick(&[mixed as MakeTrace, saturated, blind]);
         let lines = rng.between(20_000, 60_000) as usize;
         let mut trace = make(&file, lines, rng);
@@ -103,7 +126,7 @@ fn long() -> Kind {
 }
 
 fn any_trace(rng: &mut Rng) -> (Vec<u8>, Vec<u8>) {
-    let file = table_file(rng.below(3) as u8, rng);
+    let file = table_file(any_rule(rng), rng);
     let trace = mixed(&file, short(rng), rng);
     (file, trace)
 }
@@ -209,6 +232,7 @@ pub fn kinds() -> Vec<Kind> {
     kinds.extend(with_rule("saturated", 15, saturated));
     kinds.extend(with_rule("asks-again", 10, asks_again));
     kinds.extend(full_rack());
+    kinds.extend(renewals());
     kinds.extend(refused_tables());
     kinds.extend(long_tables());
     kinds.extend(conversations());

@@ -55,7 +55,7 @@ fn ill_formed_states() -> Vec<Fault> {
     vec![
         ("k-0", |rack| rack.table.k = 0),
         ("k-7", |rack| rack.table.k = 7),
-        ("rule-3", |rack| rack.table.rule = 3),
+        ("rule-5", |rack| rack.table.rule = 5),
         ("no-card", |rack| rack.table.slots = [0; 64]),
         ("slot-of-number-0", |rack| rack.table.slots[0] = 9),
         ("number-over-k", |rack| rack.table.slots[8] = 9),
@@ -81,6 +81,16 @@ fn ill_formed_counts() -> Vec<Fault> {
             rack.waiting[5] = true;
             rack.counts[5] = 1;
         }),
+        ("count-under-rule-3", |rack| {
+            rack.table.rule = 3;
+            rack.waiting[5] = true;
+            rack.counts[5] = 1;
+        }),
+        ("count-under-rule-4", |rack| {
+            rack.table.rule = 4;
+            rack.waiting[5] = true;
+            rack.counts[5] = 1;
+        }),
         ("count-without-waiting", |rack| {
             rack.table.rule = 2;
             rack.counts[5] = 1;
@@ -93,6 +103,37 @@ fn ill_formed_counts() -> Vec<Fault> {
             rack.table.rule = 2;
             rack.waiting[5] = true;
             rack.counts[5] = 8;
+        }),
+    ]
+}
+
+fn ill_formed_sets() -> Vec<Fault> {
+    vec![
+        ("batch-under-rule-1", |rack| {
+            rack.waiting[5] = true;
+            rack.batch[5] = true;
+        }),
+        ("batch-under-rule-4", |rack| {
+            rack.table.rule = 4;
+            rack.waiting[5] = true;
+            rack.batch[5] = true;
+        }),
+        ("batch-of-a-stranger", |rack| {
+            rack.table.rule = 3;
+            rack.batch[3] = true;
+        }),
+        ("batch-without-waiting", |rack| {
+            rack.table.rule = 3;
+            rack.batch[5] = true;
+        }),
+        ("inhibition-under-rule-1", |rack| rack.inhibited[5] = true),
+        ("inhibition-under-rule-3", |rack| {
+            rack.table.rule = 3;
+            rack.inhibited[5] = true;
+        }),
+        ("inhibition-of-a-stranger", |rack| {
+            rack.table.rule = 4;
+            rack.inhibited[3] = true;
         }),
     ]
 }
@@ -119,8 +160,9 @@ fn winner_with_full_count(program: &Shared, met: &mut Met) -> Result<(), String>
 }
 
 pub fn kinds(program: &Shared) -> Vec<Kind> {
-    let faults = ill_formed_states().into_iter().chain(ill_formed_counts());
+    let faults = [ill_formed_states(), ill_formed_counts(), ill_formed_sets()].concat();
     let mut kinds: Vec<Kind> = faults
+        .into_iter()
         .map(|(name, fault)| ill_formed(program, name, fault))
         .collect();
     let by = program.clone();

@@ -32,12 +32,11 @@ pub struct Bus {
 }
 
 impl Bus {
-    /// `load` is the offered load of all agents together.
-    pub fn start(agents: usize, load: f64, rule: u8, seed: u64) -> Result<Bus, String> {
+    pub fn start(agents: usize, mean_think: f64, rule: u8, seed: u64) -> Result<Bus, String> {
         let mut bus = Bus {
             arbiter: Arbiter::start(agents, rule)?,
             rng: Rng::new(seed),
-            mean_think: mean_think(agents, load),
+            mean_think,
             asks: Vec::new(),
             heard: vec![false; agents],
             holder: None,
@@ -105,9 +104,4 @@ impl Bus {
         let above_zero = ((self.rng.next_u64() >> 11) + 1) as f64 / (1u64 << 53) as f64;
         -self.mean_think * above_zero.ln()
     }
-}
-
-/// An agent's load is its transaction time over the sum of that and its mean interrequest time.
-fn mean_think(agents: usize, load: f64) -> f64 {
-    TRANSACTION * (agents as f64 / load - 1.0)
 }

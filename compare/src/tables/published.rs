@@ -4,6 +4,8 @@
 //! over that of the lowest. Table 4.2 gives the mean wait W and the standard deviation of the wait
 //! for each protocol. `±` is the half-width of a 90% confidence interval.
 
+use crate::load::Load;
+
 /// Adding a protocol is adding its column here and its line to `PROTOCOLS`.
 pub const SYSTEMS: [System; 2] = [
     System {
@@ -32,15 +34,15 @@ pub const SYSTEMS: [System; 2] = [
     System {
         agents: 30,
         bandwidth: "
-            load  throughput  RR           FCFS
-            0.25  0.25        1.01 ± 0.09  1.00 ± 0.08
-            0.50  0.49        1.00 ± 0.06  0.98 ± 0.07
-            1.00  0.91        1.02 ± 0.07  1.05 ± 0.06
-            1.50  1.00        1.00 ± 0.05  1.06 ± 0.04
-            2.00  1.00        1.00 ± 0.03  1.06 ± 0.05
-            2.50  1.00        0.99 ± 0.02  1.03 ± 0.03
-            5.00  1.00        1.00 ± 0.01  1.04 ± 0.01
-            7.50  1.00        1.00 ± 0.00  1.03 ± 0.01",
+            load  throughput  RR           FCFS         AAP
+            0.25  0.25        1.01 ± 0.09  1.00 ± 0.08  0.98 ± 0.09
+            0.50  0.49        1.00 ± 0.06  0.98 ± 0.07  0.99 ± 0.07
+            1.00  0.91        1.02 ± 0.07  1.05 ± 0.06  1.07 ± 0.07
+            1.50  1.00        1.00 ± 0.05  1.06 ± 0.04  1.27 ± 0.04
+            2.00  1.00        1.00 ± 0.03  1.06 ± 0.05  1.53 ± 0.05
+            2.50  1.00        0.99 ± 0.02  1.03 ± 0.03  1.68 ± 0.04
+            5.00  1.00        1.00 ± 0.01  1.04 ± 0.01  1.96 ± 0.02
+            7.50  1.00        1.00 ± 0.00  1.03 ± 0.01  1.99 ± 0.02",
         waits: "
             load  W      FCFS  RR    RR/FCFS
             0.25  1.66   0.36  0.36  1.01 ± 0.04
@@ -59,17 +61,33 @@ pub const PROTOCOLS: &[Protocol] = &[
     Protocol {
         name: "RR",
         rule: 1,
+        load: Load::Share,
     },
     Protocol {
         name: "FCFS",
         rule: 2,
+        load: Load::Share,
+    },
+    Protocol {
+        name: "AAP",
+        rule: 3,
+        load: Load::Rate,
     },
 ];
+
+/// The other assured access protocol. No column is printed for it, and it must not fit AAP's.
+pub const INHIBIT: Protocol = Protocol {
+    name: "inhibit",
+    rule: 4,
+    load: Load::Rate,
+};
 
 pub struct Protocol {
     pub name: &'static str,
     /// The product's number for it.
     pub rule: u8,
+    /// What the loads beside its column mean.
+    pub load: Load,
 }
 
 pub struct System {

@@ -1,13 +1,11 @@
 //! A row of the tables: every protocol simulated at one load, each figure beside the printed one.
 
-use crate::batches::{measure, Estimate, Measured};
-use crate::bus::Bus;
+use crate::batches::Estimate;
 use crate::comparison::Comparison;
-use crate::published::{figure, Figure, Protocol, System, PROTOCOLS};
-use compare::rng::Rng;
-
-/// Here the protocols' deviations lie far apart, so a rule must not fit another's column.
-const CONTROL_LOAD: &str = "1.50";
+use crate::controls::controls;
+use crate::load::Load;
+use crate::published::{figure, Protocol, System};
+use crate::runs::{compare_runs, Place, Run};
 
 pub struct Row {
     pub load: String,
@@ -15,11 +13,9 @@ pub struct Row {
     pub bandwidth: Vec<Comparison>,
     /// Figures of table 4.2.
     pub waits: Vec<Comparison>,
-    /// Figures held against a column that isn't theirs. A judge that lets them pass is too mild.
+    /// Figures held against a column that isn't theirs.
     pub controls: Vec<Comparison>,
 }
-
-type Run = (&'static Protocol, Measured);
 
 impl Row {
     pub fn simulate(
@@ -28,47 +24,25 @@ impl Row {
         batch_size: usize,
         seed: u64,
     ) -> Result<Row, String> {
-        let mut runs = Vec::new();
-        for protocol in PROTOCOLS {
-            if figure(system.bandwidth, load, protocol.name).is_some() {
-                let seed = run_seed(seed, system.agents, load, protocol.rule);
-                let offered = load.parse().expect("the tables hold numbers");
-                let bus = Bus::start(system.agents, offered, protocol.rule, seed)?;
-                runs.push((protocol, measure(bus, system.agents, batch_size)?));
-            }
-        }
+        let place = Place {
+            system,
+            load,
+            batch_size,
+            seed,
+        };
+        let runs = place.runs()?;
         Ok(Row {
             load: load.to_string(),
             bandwidth: bandwidth(system, load, &runs),
             waits: waits(system, load, &runs),
-            controls: controls(system, load, &runs),
+            controls: controls(&place, &runs)?,
         })
     }
 }
 
-/// Every run has random numbers of its own, whichever rows are run beside it.
-fn run_seed(seed: u64, agents: usize, load: &str, rule: u8) -> u64 {
-    let run = format!("{agents} agents, load {load}, rule {rule}");
-    run.bytes().fold(seed, |mixed, byte| {
-        Rng::new(mixed ^ u64::from(byte)).next_u64()
-    })
-}
-
-/// Compares one measure of every run, where the table prints a figure for it.
-fn compare_runs<'a>(
-    name: &str,
-    runs: &'a [Run],
-    batches: fn(&'a Measured) -> &'a Vec<f64>,
-    printed: impl Fn(&Protocol) -> Option<Figure>,
-) -> Vec<Comparison> {
-    let comparison = |(protocol, measured): &'a Run| {
-        Some(Comparison {
-            name: format!("{name} {}", protocol.name),
-            printed: printed(protocol)?,
-            simulated: Estimate::of(batches(measured)),
-        })
-    };
-    runs.iter().filter_map(comparison).collect()
+/// Λ and W are printed once for all protocols, for the document's own loads.
+fn shares_loads(protocol: &Protocol) -> bool {
+    protocol.load == Load::Share
 }
 
 fn bandwidth(system: &System, load: &str, runs: &[Run]) -> Vec<Comparison> {
@@ -77,7 +51,7 @@ fn bandwidth(system: &System, load: &str, runs: &[Run]) -> Vec<Comparison> {
         "Λ",
         runs,
         |run| &run.throughput,
-        |_| figure(table, load, "throughput"),
+        |protocol| figure(table, load, "throughput").filter(|_| shares_loads(protocol)),
     );
     figures.extend(compare_runs(
         "Λn/Λ1",
@@ -90,7 +64,12 @@ fn bandwidth(system: &System, load: &str, runs: &[Run]) -> Vec<Comparison> {
 
 fn waits(system: &System, load: &str, runs: &[Run]) -> Vec<Comparison> {
     let table = system.waits;
-    let mut figures = compare_runs("W", runs, |run| &run.wait, |_| figure(table, load, "W"));
+    let mut figures = compare_runs(
+        "W",
+        runs,
+        |run| &run.wait,
+        |protocol| figure(table, load, "W").filter(|_| shares_loads(protocol)),
+    );
     figures.extend(compare_runs(
         "σ",
         runs,
@@ -114,23 +93,4 @@ fn deviation_ratio(table: &str, load: &str, runs: &[Run]) -> Option<Comparison> 
         printed: figure(table, load, "RR/FCFS")?,
         simulated: Estimate::of(&ratios),
     })
-}
-
-fn controls(system: &System, load: &str, runs: &[Run]) -> Vec<Comparison> {
-    if load != CONTROL_LOAD {
-        return Vec::new();
-    }
-    let against = |other: &'static Protocol| {
-        let name = format!("σ of {} must not fit", other.name);
-        compare_runs(
-            &name,
-            runs,
-            |run| &run.deviation,
-            move |protocol| {
-                let differs = protocol.name != other.name;
-                figure(system.waits, load, other.name).filter(|_| differs)
-            },
-        )
-    };
-    PROTOCOLS.iter().flat_map(against).collect()
 }

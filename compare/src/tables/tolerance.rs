@@ -6,7 +6,7 @@
 //!   the document's simulations were made by the same method;
 //! - s, the half-width of our own 90% interval;
 //! - half as much again as their sum. The sum alone is missed by chance in 2 of 100 figures whose
-//!   p and s are alike, which of the 144 figures of a full run would be three.
+//!   p and s are alike, which of the 152 figures of a full run would be three.
 
 use crate::batches::Estimate;
 use crate::published::Figure;

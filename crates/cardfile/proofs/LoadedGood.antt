@@ -159,7 +159,7 @@ cards-make records h number slot ranges good =
     rw (
       le-leb 1 (h .width) (omega (arith, leb-true)),
       le-leb (h .width) 6 width,
-      le-leb (h .rule) 2 (omega (arith, leb-true)),
+      le-leb (h .rule) 4 (omega (arith, leb-true)),
       eq-eqb _ 64 (slots-length records (h .length) number slot (h .cards)),
       all-each 64 _ (λ a here. number-good records (h .length) number slot top (h .cards) small fine a here),
       le-leb 1 _ (last-there records (h .length) number slot top (h .cards) small (omega (arith, leb-true)) fine),

@@ -101,7 +101,7 @@ module _ (k rule n : ℕ) (cards : List ℕ) where
   unfolding headerOf
   saved-header = refl
 
-  saved-ranges : 1 ≤ k → k ≤ 6 → rule ≤ 2 → 1 ≤ n → n ≤ 63 → n ≤ 2 ^ k - 1 → rangesGood (savedHeader k rule n) ≡ true
+  saved-ranges : 1 ≤ k → k ≤ 6 → rule ≤ 4 → 1 ≤ n → n ≤ 63 → n ≤ 2 ^ k - 1 → rangesGood (savedHeader k rule n) ≡ true
   unfolding rangesGood
   saved-ranges k₁ k₂ r n₁ n₂ n₃ = rw (le-leb _ _ n₁, le-leb _ _ n₂, le-leb _ _ k₁, le-leb _ _ k₂, le-leb _ _ r, le-leb _ _ n₃)
 

@@ -41,7 +41,7 @@ editionGood h = eqb (h .edition) 1
 unfoldable pub rangesGood : Header → Bool
 rangesGood h =
     between 2 16 (h .columns)
-    && (between 1 63 (h .cards) && (between 1 6 (h .width) && (leb (h .rule) 2 && (between 2 64 (h .length) && leb (h .cards) (2 ^ h .width - 1)))))
+    && (between 1 63 (h .cards) && (between 1 6 (h .width) && (leb (h .rule) 4 && (between 2 64 (h .length) && leb (h .cards) (2 ^ h .width - 1)))))
 
 -- 4: offsets or file length break the layout. The directory is at 12 or later and does not end past the records; these end with the file
 unfoldable pub layoutGood : Header → ℕ → Bool

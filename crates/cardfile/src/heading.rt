@@ -48,7 +48,7 @@ pub(crate) fn ranges_good(h: Header) -> bool
     let rule = h.rule;
     let size = h.length;
     let sizes = ((2 <= size) & (size <= 64)) & (cards <= cards::top_number(k));
-    let rest = ((1 <= k) & (k <= 6)) & ((rule <= 2) & sizes);
+    let rest = ((1 <= k) & (k <= 6)) & ((rule <= 4) & sizes);
     ((2 <= columns) & (columns <= 16)) & (((1 <= cards) & (cards <= 63)) & rest)
 }
 

@@ -3,7 +3,7 @@
 use Prim.Native.Nat.{ℕ}
 use mathlib.Core.Bool.{Bool}
 use mathlib.Core.List.{List, []}
-use mathlib.Core.Path.{_≡_, sym, _∙_}
+use mathlib.Core.Path.{_≡_, sym, ap, _∙_}
 use lib.ListN.{length}
 use Rattle.cardfile.specs.Format.{wordOf, loadTableOf}
 use Rattle.cards.specs.Saving.{savedOf, bufferAfter}
@@ -15,16 +15,15 @@ use Rattle.lines.specs.Settle.{Settles}
 use Rattle.rack.specs.Arbitrate.{arbitrateOf, eventOf}
 use Rattle.rack.specs.Events.{requestOf, releaseOf}
 use Rattle.rack.specs.Files.{loadOf, saveOf, saveAfter}
-use Rattle.rack.specs.Lent.{Leaves, Requests, Releases, Arbitrates}
+use Rattle.rack.specs.Lent.{Marks, marks, stateOf, Leaves, Requests, Releases, Arbitrates}
 use Rattle.rack.specs.State.{wellFormed, freshOf}
 use Rattle.rack.specs.declared.Hold.{Hold}
 use Rattle.rack.specs.declared.Outcome.{Outcome}
 use Rattle.rack.specs.declared.RackState.{RackState}
-use Rattle.rack.specs.declared.Reply.{Reply}
 use Rattle.trace.specs.Line.{lineOf, textOf}
 use Rattle.trace.specs.Listing.{Lists}
 
--- ---- a contract admits one result: of a function that is lent nothing, one buffer, or the two arrays of marks
+-- ---- a contract admits one result: of a function that is lent nothing, one buffer or array, two arrays, or the marks
 
 abbrev pub Determined : {A : Type 0} → (A → Type 0) → Type 0
 Determined {A} Admits = (x y : A) → Admits x → Admits y → x ≡ y
@@ -32,9 +31,8 @@ Determined {A} Admits = (x y : A) → Admits x → Admits y → x ≡ y
 abbrev pub DeterminedLeft : {A B : Type 0} → (A → B → Type 0) → Type 0
 DeterminedLeft {A} {B} Admits = (x y : A) (b c : B) → Admits x b → Admits y c → (x ≡ y) × (b ≡ c)
 
-abbrev pub DeterminedMarks : (Reply → List Bool → List ℕ → Type 0) → Type 0
-DeterminedMarks Admits =
-    (x y : Reply) (b c : List Bool) (l m : List ℕ) → Admits x b l → Admits y c m → (x ≡ y) × (b ≡ c) × (l ≡ m)
+abbrev pub DeterminedTwo : {A B C : Type 0} → (A → B → C → Type 0) → Type 0
+DeterminedTwo {A} {B} {C} Admits = (x y : A) (b c : B) (l m : C) → Admits x b l → Admits y c m → (x ≡ y) × (b ≡ c) × (l ≡ m)
 
 -- ---- what they share
 
@@ -44,9 +42,8 @@ one-result p q = p ∙ sym q
 pub one-result-left : {A B : Type 0} {value x y : A} {left b c : B} → (x ≡ value) × (b ≡ left) → (y ≡ value) × (c ≡ left) → (x ≡ y) × (b ≡ c)
 one-result-left p q = (one-result (p .0) (q .0), one-result (p .1) (q .1))
 
-pub one-reply : {o : Outcome} → DeterminedMarks (Leaves o)
-one-reply x y b c l m p q =
-    (one-result (p .reply) (q .reply), one-result (p .waiting-left) (q .waiting-left), one-result (p .counts-left) (q .counts-left))
+pub one-reply : {o : Outcome} → DeterminedLeft (Leaves o)
+one-reply x y b c p q = one-result-left (p .reply, p .marks-left) (q .reply, q .marks-left)
 
 -- ---- lines
 
@@ -103,16 +100,23 @@ save-determined s buf x y b c = one-result-left
 
 -- ---- rack, on lent marks. A contract there holds whatever the parts are that the event does not look at: one choice of them will do.
 
+pub state-of-determined : (t : Table) (m : Marks) (hold : Hold) → Determined (λ r. r ≡ stateOf t m hold)
+state-of-determined t m hold x y = one-result
+
 pub request-in-determined : (formed : Bool) (slots : List ℕ) (waiting : List Bool) (counts : List ℕ) (hold : Hold) (a : ℕ)
-    → DeterminedMarks (Requests formed slots waiting counts hold a)
-request-in-determined formed slots waiting counts hold a x y b c l m p q = one-reply x y b c l m (p .left 0 0) (q .left 0 0)
+    → DeterminedTwo (Requests formed slots waiting counts hold a)
+request-in-determined formed slots waiting counts hold a x y b c l m p q =
+    let one = one-reply x y (marks b l [] []) (marks c m [] []) (p .left 0 0 [] []) (q .left 0 0 [] []) in
+    (one .0, ap (λ (all : Marks). all .waiting) (one .1), ap (λ (all : Marks). all .counts) (one .1))
 
-pub release-in-determined : (formed : Bool) (slots : List ℕ) (hold : Hold) (a : ℕ) → Determined (Releases formed slots hold a)
-release-in-determined formed slots hold a x y p q = one-result (p .left 0 0 [] [] .reply) (q .left 0 0 [] [] .reply)
+pub release-in-determined : (formed : Bool) (rule : ℕ) (slots : List ℕ) (inhibited : List Bool) (hold : Hold) (a : ℕ)
+    → DeterminedLeft (Releases formed rule slots inhibited hold a)
+release-in-determined formed rule slots inhibited hold a x y b c p q =
+    let one = one-reply x y (marks [] [] [] b) (marks [] [] [] c) (p .left 0 [] [] []) (q .left 0 [] [] []) in
+    (one .0, ap (λ (all : Marks). all .inhibited) (one .1))
 
-pub arbitrate-in-determined : (formed : Bool) (k rule : ℕ) (waiting : List Bool) (counts : List ℕ) (hold : Hold)
-    → DeterminedMarks (Arbitrates formed k rule waiting counts hold)
-arbitrate-in-determined formed k rule waiting counts hold x y b c l m p q = one-reply x y b c l m (p .left []) (q .left [])
+pub arbitrate-in-determined : (formed : Bool) (k rule : ℕ) (m : Marks) (hold : Hold) → DeterminedLeft (Arbitrates formed k rule m hold)
+arbitrate-in-determined formed k rule m hold x y b c p q = one-reply x y b c (p .left []) (q .left [])
 
 -- ---- trace
 

@@ -1,6 +1,6 @@
 -- The definitions at work: the listing of document 01 and its known settlings that name a rule are what they give, and the fixed rule is not fair, so
 -- that demand 3 is not vacuous. Assumes nothing.
-use Prim.Native.Nat.{ℕ, _-_}
+use Prim.Native.Nat.{ℕ, _-_, _*_}
 use native.Mathlib.Omega.{arith}
 use mathlib.Core.List.{List, [], _∷_, map}
 use mathlib.Core.Path.{_≡_, refl}
@@ -19,14 +19,15 @@ use Rattle.promises.specs.Runs.{Event, after, grants, times, timesOthers
 use Rattle.rack.specs.Arbitrate as arbitrate
 use Rattle.rack.specs.Events.{answeredBy, requestRefusal, releaseRefusal}
 use Rattle.rack.specs.Files.{loadOf}
-use Rattle.rack.specs.State.{wellFormed, markFits, freshOf}
+use Rattle.rack.specs.State.{wellFormed, markFits, setsFit, freshOf}
 
 -- whoever unfolds this computes with the whole machine
 machine : Type 0
 unfolding below.allBelow below.anyBelow below.sumBelow below.tabulate below.rowsBelow
     table.hasCard table.inTable table.slotIsNew table.numberGood table.slotsGood table.tableGood
-    markFits wellFormed answeredBy requestRefusal releaseRefusal
-    arbitrate.byRule arbitrate.linesOf arbitrate.numberOf arbitrate.competes arbitrate.competingBelow arbitrate.someLoserFull
+    markFits setsFit wellFormed answeredBy requestRefusal releaseRefusal
+    arbitrate.byRule arbitrate.linesBy arbitrate.numberOf arbitrate.goesFirst arbitrate.somePreferred arbitrate.competes
+    arbitrate.batchNow arbitrate.inhibitedNow arbitrate.competingBelow arbitrate.someLoserFull
     arbitrate.losersCounted arbitrate.granted arbitrate.wonBy arbitrate.arbitrated arbitrate.arbitrateRefusal arbitrate.eventOf
     settle.someFrom settle.refusal
     settling.settled settling.stages settling.changes settling.linesAt settling.stage settling.applied settling.outbid settling.trail
@@ -82,7 +83,7 @@ pub fixed-not-at-most-once : AtMost 1 0 → ⊥
 unfolding machine two-cards both-ask six-twice
 fixed-not-at-most-once claim = omega (arith, claim (two-cards 0) refl both-ask six-twice 2 6 (omega arith) two-waits)
 
-pub fixed-not-at-most-others : AtMostOthers 0 → ⊥
+pub fixed-not-at-most-others : AtMostOthers 1 0 → ⊥
 unfolding machine two-cards both-ask six-twice
 fixed-not-at-most-others claim = omega (arith, claim (two-cards 0) refl both-ask six-twice 2 two-waits)
 
@@ -122,4 +123,43 @@ unfolding machine two-cards both-ask
 within-reached = (
   λ claim. omega (arith, claim (two-cards 1) refl both-ask (A ∷ []) 6 2 (λ _. refl, tt) (λ _. refl, tt)),
   λ claim. omega (arith, claim (two-cards 2) refl both-ask (A ∷ []) 6 2 (λ _. refl, tt) (λ _. refl, tt)),
+)
+
+-- ---- the bounds of two are reached under the rules of rebuilt racks: no smaller bound will do
+
+-- under the batch rule the card 2 asks while the card 5 is still in a batch: 5 is granted there, and again in the batch with 2
+pub five-in-batch : List Event
+five-in-batch = Q 5 ∷ Q 6 ∷ A ∷ Q 2 ∷ []
+
+pub five-twice : List Event
+five-twice = R 6 ∷ A ∷ Q 5 ∷ R 5 ∷ A ∷ []
+
+pub batch-reached : (AtMost 1 3 → ⊥) × (Within 1 3 → ⊥)
+unfolding machine threeCards five-in-batch five-twice
+batch-reached = (
+  λ claim. omega (arith, claim (threeCards 3) refl five-in-batch five-twice 2 5 (omega arith) (refl, (refl, (refl, (refl, (refl, tt)))))),
+  λ claim. omega (
+    arith,
+    claim (threeCards 3) refl five-in-batch five-twice 5 2
+        (λ _. refl, (λ _. refl, (λ none. none, (λ _. refl, (λ _. refl, tt)))))
+        (λ _. refl, (λ _. refl, (λ _. refl, (λ _. refl, (λ _. refl, tt))))),
+  ),
+)
+
+-- under the inhibit rule the card 2 waits inhibited: the card 6 is granted, and again when the inhibitions have been cleared
+pub two-inhibited : List Event
+two-inhibited = Q 2 ∷ A ∷ R 2 ∷ Q 2 ∷ Q 6 ∷ []
+
+pub inhibit-reached : (AtMost 1 4 → ⊥) × (Within 1 4 → ⊥)
+    × (timesOthers 2 (grants (after (freshOf (two-cards 4)) two-inhibited) six-twice) ≡ 2 * (cardsOf (freshOf (two-cards 4)) - 1))
+unfolding machine two-cards two-inhibited six-twice
+inhibit-reached = (
+  λ claim. omega (arith, claim (two-cards 4) refl two-inhibited six-twice 2 6 (omega arith) (refl, (refl, (refl, (refl, tt))))),
+  λ claim. omega (
+    arith,
+    claim (two-cards 4) refl two-inhibited six-twice 6 2
+        (λ _. refl, (λ none. none, (λ none. none, (λ _. refl, tt))))
+        (λ _. refl, (λ _. refl, (λ _. refl, (λ _. refl, tt)))),
+  ),
+  refl,
 )

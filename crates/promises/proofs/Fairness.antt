@@ -1,4 +1,4 @@
--- Demand 3 for the round-robin and the arrival rule. Assumes nothing.
+-- Demand 3 for the round-robin and the arrival rule, and what stands in its place for the batch and the inhibit rule. Assumes nothing.
 use Prim.Native.Nat.{ℕ, zero, suc, _+_, _≤_}
 use native.Mathlib.Omega.{arith}
 use mathlib.Core.List.{List}
@@ -7,11 +7,12 @@ use mathlib.Core.Path.{_≡_, refl, ap}
 use Rattle.cards.proofs.Below.{same-or-not}
 use Rattle.cards.specs.Table.{cardCount}
 use Rattle.cards.specs.declared.Table.{Table}
-use Rattle.promises.proofs.Potentials.{fair-potential}
+use Rattle.promises.proofs.Potentials.{fair-potential, batch-potential}
 use Rattle.promises.proofs.Share.{share, others}
 use Rattle.promises.proofs.Turns.{Potential, bounded, ahead, same-table}
-use Rattle.promises.specs.Fairness.{AtMost, Within, Fair, FairRules}
+use Rattle.promises.specs.Fairness.{AtMost, AtMostOthers, Within, Fair, FairRules, FairByTwo, BatchRules}
 use Rattle.promises.specs.Runs.{Event, after, grants, times, cardsOf}
+use Rattle.rack.proofs.Open.{BatchRule}
 use Rattle.rack.proofs.Winner.{FairRule}
 use Rattle.rack.specs.State.{freshOf}
 use Rattle.rack.specs.declared.RackState.{RackState}
@@ -30,6 +31,10 @@ module _ (rules : ℕ → Type 0) (n : ℕ) (potential : (a b : ℕ) → a ≢ b
   at-most t e before during waiter other d h =
       bounded waiter other d (potential waiter other d) during (after (freshOf t) before) (rules-after rules t rule e before r) h
 
+  at-most-others : AtMostOthers n rule
+  at-most-others t e before during waiter h =
+      rw (← same-cards t before) (others waiter n during (after (freshOf t) before) (λ other d. at-most t e before during waiter other d h) h)
+
   within : Within n rule
   within t e before during one two h₁ h₂ = go (same-or-not two one)
     where
@@ -42,19 +47,11 @@ module _ (rules : ℕ → Type 0) (n : ℕ) (potential : (a b : ℕ) → a ≢ b
 
 -- each field from what its law says, by arithmetic
 module _ (rule : ℕ) (r : FairRule rule) where
-  once : AtMost 1 rule
-  once = at-most FairRule 1 fair-potential rule r
-
   fair : Fair rule
   fair =
       record {
-        at-most-once = λ t e before during waiter other d h. omega (arith, once t e before during waiter other d h);
-        at-most-others = λ t e before during waiter h.
-            omega (
-              arith,
-              same-cards t before,
-              others waiter during (after (freshOf t) before) (λ other d. once t e before during waiter other d h) h,
-            );
+        at-most-once = λ t e before during waiter other d h. omega (arith, at-most FairRule 1 fair-potential rule r t e before during waiter other d h);
+        at-most-others = λ t e before during waiter h. omega (arith, at-most-others FairRule 1 fair-potential rule r t e before during waiter h);
         fair-share = λ t e before during card h.
             omega (arith, rw same-cards at (share card during (after (freshOf t) before) (rules-after FairRule t rule e before r) h));
         within-one = λ t e before during one two h₁ h₂. omega (arith, within FairRule 1 fair-potential rule r t e before during one two h₁ h₂);
@@ -71,3 +68,25 @@ round-robin-fair = fair-rules 1 (omega arith) (omega arith)
 
 pub arrival-fair : Fair 2
 arrival-fair = fair-rules 2 (omega arith) (omega arith)
+
+fair-by-two : (rule : ℕ) → BatchRule rule → FairByTwo rule
+fair-by-two rule r =
+    record {
+      at-most-twice = λ t e before during waiter other d h. omega (arith, at-most BatchRule 2 batch-potential rule r t e before during waiter other d h);
+      at-most-others = λ t e before during waiter h. omega (arith, at-most-others BatchRule 2 batch-potential rule r t e before during waiter h);
+      within-two = λ t e before during one two h₁ h₂. omega (arith, within BatchRule 2 batch-potential rule r t e before during one two h₁ h₂);
+    }
+
+pub batch-rules : BatchRules
+batch-rules zero low high = absurd (omega arith)
+batch-rules (suc zero) low high = absurd (omega arith)
+batch-rules (suc (suc zero)) low high = absurd (omega arith)
+batch-rules (suc (suc (suc zero))) low high = fair-by-two 3 (inl refl)
+batch-rules (suc (suc (suc (suc zero)))) low high = fair-by-two 4 (inr refl)
+batch-rules (suc (suc (suc (suc (suc rule))))) low high = absurd (omega arith)
+
+pub batch-fair-by-two : FairByTwo 3
+batch-fair-by-two = batch-rules 3 (omega arith) (omega arith)
+
+pub inhibit-fair-by-two : FairByTwo 4
+inhibit-fair-by-two = batch-rules 4 (omega arith) (omega arith)

@@ -1,7 +1,7 @@
 -- The grants of a run, summed over the cards of the table: the share of a card that waits at every grant, and the grants that go to others while a
 -- card waits. Assumes nothing.
 use Prim.Native.Nat.{ℕ, zero, suc, _+_, _-_, _*_, _/_, _≤_, _<_}
-use native.Mathlib.Nat.{not-suc-le-zero, mul-zero, zero-div, div-lt-iff-lt-mul}
+use native.Mathlib.Nat.{not-suc-le-zero, mul-zero, mul-suc, zero-div, div-lt-iff-lt-mul}
 use native.Mathlib.Omega.{arith}
 use mathlib.Core.Bool.{Bool, true, false, cond, true≢false}
 use mathlib.Core.List.{List, [], _∷_, _++_}
@@ -52,6 +52,13 @@ times-others a (x ∷ l) = go (eqb x a) (times-others a l)
     go : (t : Bool) → timesOthers a l + times a l ≡ length l → (cond t 0 1 + timesOthers a l) + (cond t 1 0 + times a l) ≡ length (x ∷ l)
     go true ih = omega arith
     go false ih = omega arith
+
+mul-sub-one : (k x : ℕ) → k * (x - 1) ≡ k * x - k
+mul-sub-one k zero = omega arith
+mul-sub-one k (suc x) =
+    let before : suc x - 1 ≡ x = omega arith in
+    let after : k * suc x ≡ k * x + k = mul-suc k x in
+    rw (before, after) (omega arith)
 
 -- ---- the grants of a run
 
@@ -123,10 +130,10 @@ module _ (a : ℕ) where
   waits-at-grants [] s h = tt
   waits-at-grants (e ∷ es) s h = (λ _. h .0, waits-at-grants es (next s e) (h .1))
 
-  -- where each other card is granted at most once, the others are granted less often than there are cards
-  pub others : (es : List Event) (s : RackState) → ((b : ℕ) → a ≢ b → times b (grants s es) ≤ 1) → WaitsThrough a s es
-      → timesOthers a (grants s es) ≤ cardsOf s - 1
-  others es s once h = go (waiter-card es s (waits-at-grants es s h))
+  -- where each other card is granted at most k times, the others together are granted at most k times for each card but a
+  pub others : (k : ℕ) (es : List Event) (s : RackState) → ((b : ℕ) → a ≢ b → times b (grants s es) ≤ k) → WaitsThrough a s es
+      → timesOthers a (grants s es) ≤ k * (cardsOf s - 1)
+  others k es s most h = go (waiter-card es s (waits-at-grants es s h))
     where
       l : List ℕ
       l = grants s es
@@ -135,23 +142,27 @@ module _ (a : ℕ) where
       c = times a l
 
       within : isCard s a ≡ true → (n : ℕ) (t : Bool) → isCard s n ≡ t → (a ≡ n) ⊎ (a ≢ n)
-          → times n l + cond (eqb a n) 1 0 ≤ cond (eqb a n) c 0 + cond t 1 0
-      within k n true e (inl p) = rw (← p, eq-eqb a a refl) (omega arith)
-      within k n true e (inr q) = rw (ne-eqb a n q) (omega (arith, once n q))
-      within k n false e (inl p) = absurd (true≢false (sym k ∙ ap (isCard s) p ∙ e))
-      within k n false e (inr q) = rw (ne-eqb a n q, times-other (cards-only es s) n e) (omega arith)
+          → times n l + cond (eqb a n) k 0 ≤ cond (eqb a n) c 0 + cond t k 0
+      within card n true e (inl p) = rw (← p, eq-eqb a a refl) (omega arith)
+      within card n true e (inr q) = rw (ne-eqb a n q) (omega (arith, most n q))
+      within card n false e (inl p) = absurd (true≢false (sym card ∙ ap (isCard s) p ∙ e))
+      within card n false e (inr q) = rw (ne-eqb a n q, times-other (cards-only es s) n e) (omega arith)
 
-      go : (grants s es ≡ []) ⊎ ((a < 64) × (isCard s a ≡ true)) → timesOthers a l ≤ cardsOf s - 1
+      only-a : a < 64 → (x : ℕ) → sumBelow 64 (λ n. cond (eqb a n) x 0) ≡ x
+      only-a below x = sum-scale 64 x (eqb a) ∙ rw (sum-one 64 a below) (omega arith)
+
+      go : (grants s es ≡ []) ⊎ ((a < 64) × (isCard s a ≡ true)) → timesOthers a l ≤ k * (cardsOf s - 1)
       go (inl p) = omega (arith, times-others a l, ap length p)
-      go (inr k) =
-          let spent : sumBelow 64 (λ n. cond (eqb a n) c 0) ≡ c = sum-scale 64 c (eqb a) ∙ rw (sum-one 64 a (k .0)) (omega arith) in
-          omega (
+      go (inr card) =
+          rw (mul-sub-one k (cardsOf s)) (omega (
             arith,
             times-others a l,
             sum-times (cards-only es s),
-            sum-one 64 a (k .0),
-            sum-add 64 (λ n. times n l) (λ n. cond (eqb a n) 1 0),
-            sum-add 64 (λ n. cond (eqb a n) c 0) (λ n. cond (isCard s n) 1 0),
-            sum-le 64 (λ n. times n l + cond (eqb a n) 1 0) (λ n. cond (eqb a n) c 0 + cond (isCard s n) 1 0)
-                (λ n _. within (k .1) n (isCard s n) refl (same-or-not a n)),
-          )
+            only-a (card .0) k,
+            only-a (card .0) c,
+            sum-scale 64 k (isCard s),
+            sum-add 64 (λ n. times n l) (λ n. cond (eqb a n) k 0),
+            sum-add 64 (λ n. cond (eqb a n) c 0) (λ n. cond (isCard s n) k 0),
+            sum-le 64 (λ n. times n l + cond (eqb a n) k 0) (λ n. cond (eqb a n) c 0 + cond (isCard s n) k 0)
+                (λ n _. within (card .1) n (isCard s n) refl (same-or-not a n)),
+          ))

@@ -2,8 +2,8 @@
 use Prim.Native.Nat.{ℕ, zero, suc, _+_, _-_, _*_, _^_, _≤_, _<_}
 use native.Mathlib.Nat.{mul-le-mul}
 use native.Mathlib.Omega.{arith}
-use mathlib.Core.Bool.{Bool, true, false, cond}
-use mathlib.Core.List.{[], _∷_}
+use mathlib.Core.Bool.{Bool, true, false, cond, not, _&&_, _||_, and-true, true≢false}
+use mathlib.Core.List.{List, [], _∷_}
 use mathlib.Core.Logic.{_⊎_, inl, inr, _≢_}
 use mathlib.Core.Path.{_≡_, refl, sym, _∙_}
 use lib.Dec.{eqb}
@@ -11,14 +11,16 @@ use lib.ListN.{length, getD, set, length-append, length-set}
 use lib.Pow.{pow-mono}
 use lib.Seq.{getD-set-other}
 use borrow.Author.Tests.{leb-false, eq-eqb, ne-eqb}
-use Rattle.cards.proofs.Below.{any-false, same-or-not, tabulate-at, tabulate-length}
-use Rattle.cards.specs.Below.{tabulate}
-use Rattle.lines.proofs.Silent.{Silent, none, kept, more, silent-append}
+use Rattle.cards.proofs.Below.{any-false, any-alike, same-or-not, tabulate-at, tabulate-length}
+use Rattle.cards.specs.Below.{anyBelow, tabulate}
+use Rattle.lines.proofs.Silent.{Silent, none, kept, more, silent-append, result-silent}
 use Rattle.rack.proofs.Tests.{set-default}
-use Rattle.rack.specs.Arbitrate.{byRule, numberOf, competes, competingBelow, fullLoser, someLoserFull}
+use Rattle.rack.specs.Arbitrate.{byRule, linesOf, numberBy, numberOf, goesFirst, preferred, somePreferred, competes}
+use Rattle.rack.specs.Arbitrate.{competingBelow, settlingOf, fullLoser, someLoserFull}
 use Rattle.rack.specs.Arbitrate.{oneMore, losersCounted, winnerStopped, granted}
-use Rattle.rack.specs.Shown.{shownAt}
-use Rattle.rack.specs.State.{waitsIn, waits, countOf}
+use Rattle.rack.specs.Lent.{marksOf}
+use Rattle.rack.specs.Shown.{firstAt, shownAt, shownSettling}
+use Rattle.rack.specs.State.{isIn, waits, countOf}
 use Rattle.rack.specs.declared.RackState.{RackState}
 
 at-most-one : (b : Bool) (x : ℕ) → length (cond b (x ∷ []) []) ≤ 1
@@ -31,23 +33,65 @@ competing-short s zero = omega arith
 competing-short s (suc n) = rw length-append (omega (arith, competing-short s n, at-most-one (competes s n) (numberOf s n)))
 
 -- what the cards below n show is their competing numbers with zeros put in
-pub shown-silent : (s : RackState) (n : ℕ)
-    → Silent (competingBelow s n) (tabulate n (shownAt (s .table .k) (s .table .rule) (s .last) (s .waiting) (s .counts)))
-unfolding competingBelow tabulate shownAt competes numberOf
-shown-silent s zero = none
-shown-silent s (suc n) = silent-append (shown-silent s n) (one (waits s n))
-  where
-    one : (b : Bool) → Silent (cond b (numberOf s n ∷ []) []) (cond b (numberOf s n) 0 ∷ [])
-    one true = kept none
-    one false = more none
+module _ (s : RackState) (anew : Bool) (is : anew ≡ not (somePreferred s)) where
+  shown-silent : (n : ℕ) → Silent (competingBelow s n) (tabulate n (shownAt (s .table .k) (s .table .rule) (s .last) anew (marksOf s)))
+  unfolding competingBelow tabulate shownAt competes numberOf
+  shown-silent zero = none
+  shown-silent (suc n) = silent-append (shown-silent n) (rw is (one (waits s n) (preferred s n || not (somePreferred s))))
+    where
+      one : (b c : Bool) → Silent (cond (b && c) (numberOf s n ∷ []) []) (cond b (cond c (numberOf s n) 0) 0 ∷ [])
+      one true true = kept none
+      one true false = more none
+      one false c = more none
+
+  -- so that it settles as the competing numbers do
+  pub shown-settles : shownSettling (s .table .k) (s .table .rule) (s .last) anew (marksOf s) ≡ settlingOf s
+  shown-settles = result-silent (linesOf s) 13 (shown-silent 64) (rw tabulate-length (omega arith))
 
 -- a number that is none of the rules'
-pub other-rule : {A : Type 0} (n : ℕ) (x y z w : A) → (n ≡ 0 → ⊥) → (n ≡ 1 → ⊥) → (n ≡ 2 → ⊥) → byRule n x y z w ≡ w
+pub other-rule : {A : Type 0} (n : ℕ) (x y z b i w : A) → (n ≡ 0 → ⊥) → (n ≡ 1 → ⊥) → (n ≡ 2 → ⊥) → (n ≡ 3 → ⊥) → (n ≡ 4 → ⊥)
+    → byRule n x y z b i w ≡ w
 unfolding byRule
-other-rule zero x y z w p q r = absurd (p refl)
-other-rule (suc zero) x y z w p q r = absurd (q refl)
-other-rule (suc (suc zero)) x y z w p q r = absurd (r refl)
-other-rule (suc (suc (suc n))) x y z w p q r = refl
+other-rule zero x y z b i w p q r u v = absurd (p refl)
+other-rule (suc zero) x y z b i w p q r u v = absurd (q refl)
+other-rule (suc (suc zero)) x y z b i w p q r u v = absurd (r refl)
+other-rule (suc (suc (suc zero))) x y z b i w p q r u v = absurd (u refl)
+other-rule (suc (suc (suc (suc zero)))) x y z b i w p q r u v = absurd (v refl)
+other-rule (suc (suc (suc (suc (suc n))))) x y z b i w p q r u v = refl
+
+-- under which nothing is shown
+pub nothing-shown : (b : Bool) (k rule last count a : ℕ) → (rule ≡ 0 → ⊥) → (rule ≡ 1 → ⊥) → (rule ≡ 2 → ⊥) → (rule ≡ 3 → ⊥) → (rule ≡ 4 → ⊥)
+    → 0 ≡ cond b (numberBy k rule last count a) 0
+unfolding numberBy
+nothing-shown true k rule last count a p q r u v = sym (other-rule {A = ℕ} rule _ _ _ _ _ 0 p q r u v)
+nothing-shown false k rule last count a p q r u v = refl
+
+-- who goes first, from the two tests of the rule
+pub first-by-tests : (rule : ℕ) (batched inhibited : Bool)
+    → ((not (eqb rule 3) || batched) && (not (eqb rule 4) || not inhibited)) ≡ goesFirst rule batched inhibited
+unfolding goesFirst byRule
+first-by-tests zero batched inhibited = refl
+first-by-tests (suc zero) batched inhibited = refl
+first-by-tests (suc (suc zero)) batched inhibited = refl
+first-by-tests (suc (suc (suc zero))) batched inhibited = and-true batched
+first-by-tests (suc (suc (suc (suc zero)))) batched inhibited = refl
+first-by-tests (suc (suc (suc (suc (suc rule))))) batched inhibited =
+    rw (ne-eqb (suc (suc (suc (suc (suc rule))))) 3 (λ e. omega arith), ne-eqb (suc (suc (suc (suc (suc rule))))) 4 (λ e. omega arith))
+
+-- no rule but 3 and 4 lets a card go before another
+pub all-go-first : (rule : ℕ) (batched inhibited : Bool) → (eqb rule 3 || eqb rule 4) ≡ false → true ≡ goesFirst rule batched inhibited
+all-go-first rule batched inhibited neither = go (eqb rule 3) (eqb rule 4) neither ∙ first-by-tests rule batched inhibited
+  where
+    go : (t u : Bool) → (t || u) ≡ false → true ≡ ((not t || batched) && (not u || not inhibited))
+    go false false e = refl
+    go false true e = absurd (true≢false e)
+    go true u e = absurd (true≢false e)
+
+pub some-go-first : (rule : ℕ) (waiting batch inhibited : List Bool) → (eqb rule 3 || eqb rule 4) ≡ false
+    → anyBelow 64 (isIn waiting) ≡ anyBelow 64 (firstAt rule waiting batch inhibited)
+some-go-first rule waiting batch inhibited neither =
+    any-alike 64 (isIn waiting) (firstAt rule waiting batch inhibited)
+    (λ a _. sym (and-true (isIn waiting a)) ∙ rw (all-go-first rule (isIn batch a) (isIn inhibited a) neither))
 
 -- a product of a span and a count
 pub product-small : (x y : ℕ) → x ≤ 64 → y < 256 → x * y ≤ 16320
@@ -102,7 +146,7 @@ not-full s w a room below other two t =
 
 -- so that one more has room
 pub loser-room : (s : RackState) (w : ℕ) → someLoserFull s w ≡ false → s .table .k ≤ 6 → s .table .rule ≡ 2
-    → (a : ℕ) → a < 64 → waitsIn (winnerStopped s w) a ≡ true → getD (set (s .counts) w 0) a 0 < 255
+    → (a : ℕ) → a < 64 → isIn (winnerStopped s w) a ≡ true → getD (set (s .counts) w 0) a 0 < 255
 loser-room s w room small two a below t = go (same-or-not a w)
   where
     go : (a ≡ w) ⊎ (a ≢ w) → getD (set (s .counts) w 0) a 0 < 255

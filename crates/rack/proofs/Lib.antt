@@ -8,4 +8,5 @@ pub mod Numbers
 pub mod Winner
 pub mod Seen
 pub mod Steps
+pub mod Open
 pub mod Kept

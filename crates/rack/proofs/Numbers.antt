@@ -5,6 +5,7 @@ use native.Mathlib.Nat.{add-zero, mod-eq-of-lt, add-mod-right, add-mul-mod-self-
 use native.Mathlib.Omega.{arith}
 use mathlib.Core.Bool.{Bool, true, false, cond}
 use mathlib.Core.List.{List, [], _∷_, _++_}
+use mathlib.Core.Logic.{_⊎_, inl, inr}
 use mathlib.Core.Path.{_≡_, refl, _∙_}
 use lib.Dec.{ltb}
 use lib.Pow.{pow-add, pow-pos}
@@ -13,7 +14,8 @@ use Rattle.lines.specs.Greatest.{greatest}
 use Rattle.lines.specs.Settle.{refusal, done}
 use Rattle.rack.proofs.Formed.{Formed, formed-width, formed-rule, waiting-below, waiting-card, card-small}
 use Rattle.rack.proofs.Laws.{competing-short}
-use Rattle.rack.specs.Arbitrate.{byRule, linesOf, numberBy, numberOf, competes, competingBelow, competing, settlingOf}
+use Rattle.rack.proofs.Tests.{and-left}
+use Rattle.rack.specs.Arbitrate.{byRule, linesBy, linesOf, numberBy, numberOf, competes, competingBelow, competing, settlingOf}
 use Rattle.rack.specs.State.{waits, countOf}
 use Rattle.rack.specs.declared.RackState.{RackState}
 
@@ -21,13 +23,19 @@ use Rattle.rack.specs.declared.RackState.{RackState}
 
 pub competitor-waits : (s : RackState) (a : ℕ) → competes s a ≡ true → waits s a ≡ true
 unfolding competes
-competitor-waits s a t = t
+competitor-waits s a t = and-left (waits s a) _ t
 
 -- ---- the number as each rule has it: the card's own number and a multiple of 2 ^ k
 
-pub number-0 : (s : RackState) → s .table .rule ≡ 0 → (a : ℕ) → numberOf s a ≡ a
+-- the rules that add nothing to it
+abbrev PlainRule : ℕ → Type 0
+PlainRule r = (r ≡ 0) ⊎ ((r ≡ 3) ⊎ (r ≡ 4))
+
+number-plain : (s : RackState) → PlainRule (s .table .rule) → (a : ℕ) → numberOf s a ≡ a
 unfolding numberOf numberBy byRule
-number-0 s e a = rw e
+number-plain s (inl e) a = rw e
+number-plain s (inr (inl e)) a = rw e
+number-plain s (inr (inr e)) a = rw e
 
 pub number-1 : (s : RackState) → s .table .rule ≡ 1 → (a : ℕ) → numberOf s a ≡ a + cond (ltb a (s .last)) (2 ^ s .table .k) 0
 unfolding numberOf numberBy byRule
@@ -56,11 +64,11 @@ module _ (s : RackState) (f : Formed s) where
   waiting-small : (a : ℕ) → waits s a ≡ true → a < 2 ^ k
   waiting-small a t = card-small s f a (waiting-below s f a t) (waiting-card s f a t)
 
-  wide-0 : s .table .rule ≡ 0 → Wide s k
-  wide-0 e =
+  wide-plain : PlainRule (s .table .rule) → Wide s k
+  wide-plain e =
       record {
-        fits = λ a t. rw (number-0 s e a) (waiting-small a t);
-        own = λ a h. rw (number-0 s e a) (mod-eq-of-lt h);
+        fits = λ a t. rw (number-plain s e a) (waiting-small a t);
+        own = λ a h. rw (number-plain s e a) (mod-eq-of-lt h);
         range = omega (arith, formed-width s f);
       }
 
@@ -93,14 +101,16 @@ module _ (s : RackState) (f : Formed s) where
       mul-two n = omega arith
 
   pub wide : Wide s (linesOf s)
-  unfolding linesOf byRule
+  unfolding linesBy byRule
   wide = go (s .table .rule) refl
     where
-      go : (r : ℕ) → s .table .rule ≡ r → Wide s (byRule r k (k + 1) (k * 2) 0)
-      go zero e = wide-0 e
+      go : (r : ℕ) → s .table .rule ≡ r → Wide s (byRule r k (k + 1) (k * 2) k k 0)
+      go zero e = wide-plain (inl e)
       go (suc zero) e = wide-1 e
       go (suc (suc zero)) e = wide-2 e
-      go (suc (suc (suc r))) e = absurd (omega (arith, formed-rule s f))
+      go (suc (suc (suc zero))) e = wide-plain (inr (inl e))
+      go (suc (suc (suc (suc zero)))) e = wide-plain (inr (inr e))
+      go (suc (suc (suc (suc (suc r))))) e = absurd (omega (arith, formed-rule s f))
 
 -- ---- the greatest of them
 

@@ -13,7 +13,7 @@ use Rattle.rack.proofs.Formed.{formed-of, formed-width}
 use Rattle.rack.proofs.Tests.{and-right}
 use Rattle.rack.specs.Arbitrate.{arbitrateRefusal, arbitrateBy, arbitrateOf}
 use Rattle.rack.specs.Events.{requestRefusal, releaseRefusal}
-use Rattle.rack.specs.State.{waitsIn, waits, isClosed, isHolder, wellFormed}
+use Rattle.rack.specs.State.{isIn, waits, isClosed, isHolder, wellFormed}
 use Rattle.rack.specs.declared.RackState.{RackState}
 
 -- a chain of an event's first refusals that gives 0 met none of them
@@ -69,12 +69,12 @@ worked-out formed t₁ t₂ x y p e f = p ∙ rw (e, f)
 
 -- a number past the 64 is in no table, so that whether it waits is not asked
 pub asks-in-range : (formed : Bool) (slots : List ℕ) (waiting : List Bool) (a : ℕ)
-    → _≡_ {A = ℕ} (cond (not formed) 17 (cond (not (inTable slots a)) 11 (cond (ltb a 64 && waitsIn waiting a) 12 0)))
-    (cond (not formed) 17 (cond (not (inTable slots a)) 11 (cond (waitsIn waiting a) 12 0)))
+    → _≡_ {A = ℕ} (cond (not formed) 17 (cond (not (inTable slots a)) 11 (cond (ltb a 64 && isIn waiting a) 12 0)))
+    (cond (not formed) 17 (cond (not (inTable slots a)) 11 (cond (isIn waiting a) 12 0)))
 asks-in-range formed slots waiting a = ap (cond (not formed) 17) (go (inTable slots a) refl)
   where
     go : (b : Bool) → inTable slots a ≡ b
-        → _≡_ {A = ℕ} (cond (not b) 11 (cond (ltb a 64 && waitsIn waiting a) 12 0)) (cond (not b) 11 (cond (waitsIn waiting a) 12 0))
+        → _≡_ {A = ℕ} (cond (not b) 11 (cond (ltb a 64 && isIn waiting a) 12 0)) (cond (not b) 11 (cond (isIn waiting a) 12 0))
     go true e = rw (lt-ltb a 64 (table-range slots a e))
     go false e = refl
 

@@ -25,7 +25,7 @@ pub data NoGrant (s : RackState) : RackState → ℕ → Type 0 where
   refused : {n : ℕ} → n ≢ 16 → n ≢ 0 → NoGrant s s n
   full : (w : ℕ) → wellFormed s ≡ true → someLoserFull s w ≡ true → NoGrant s s 16
   asked : (c : ℕ) → wellFormed s ≡ true → inTable (s .table .slots) c ≡ true → waits s c ≡ false → NoGrant s (requested s c) 0
-  handed : (c : ℕ) → wellFormed s ≡ true → inTable (s .table .slots) c ≡ true → isHolder (s .bus) c ≡ true → NoGrant s (released s) 0
+  handed : (c : ℕ) → wellFormed s ≡ true → inTable (s .table .slots) c ≡ true → isHolder (s .bus) c ≡ true → NoGrant s (released s c) 0
 
 pub data Seen (s : RackState) (o : Outcome) : Type 0 where
   quiet : o .winner ≡ 0 → NoGrant s (o .state) (o .answer) → Seen s o
@@ -58,7 +58,7 @@ request-seen s a =
 release-seen : (s : RackState) (a : ℕ) → Seen s (releaseOf s a)
 unfolding releaseRefusal
 release-seen s a =
-    by-refusal s (releaseRefusal (wellFormed s) s a) (answered (released s) 0)
+    by-refusal s (releaseRefusal (wellFormed s) s a) (answered (released s a) 0)
     (no-16 (not (wellFormed s)) (not (inTable (s .table .slots) a)) (not (isHolder (s .bus) a)) 17 11 15 (omega arith) (omega arith) (omega arith))
     (λ none. let may = may-release (wellFormed s) s a none in quiet refl (handed a (may .told) (may .known) (may .holds)))
 

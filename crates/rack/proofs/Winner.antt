@@ -3,17 +3,18 @@
 use Prim.Native.Nat.{ℕ, zero, suc, _^_, _≤_, _<_}
 use native.Mathlib.Nat.{not-suc-le-zero, le-of-suc-le-suc, eq-or-lt-of-le}
 use native.Mathlib.Omega.{arith}
-use mathlib.Core.Bool.{Bool, true, false}
+use mathlib.Core.Bool.{Bool, true, false, not, _&&_, _||_}
 use mathlib.Core.Logic.{_⊎_, inl, inr}
 use mathlib.Core.Path.{_≡_, refl, _∙_}
 use lib.Pow.{pow-pos}
-use Rattle.cards.proofs.Below.{le-or-lt, any-not-none}
+use Rattle.cards.proofs.Below.{le-or-lt, any-not-none, none-any}
 use Rattle.cards.specs.Below.{anyBelow}
 use Rattle.lines.proofs.Stages.{settled-greatest}
 use Rattle.lines.specs.Greatest.{greatest}
 use Rattle.rack.proofs.Formed.{Formed, formed-of, waiting-below, waiting-card, card-positive, card-small}
 use Rattle.rack.proofs.Numbers.{competitor-waits, wide, greatest-more, greatest-fits, settles}
-use Rattle.rack.specs.Arbitrate.{linesOf, numberOf, competes, competingBelow, competing, winnerOf}
+use Rattle.rack.specs.Arbitrate.{byRule, linesOf, numberOf, goesFirst, preferred, waitsPreferred, somePreferred, competes}
+use Rattle.rack.specs.Arbitrate.{competingBelow, competing, winnerOf}
 use Rattle.rack.specs.State.{waits, isCard, wellFormed}
 use Rattle.rack.specs.declared.RackState.{RackState}
 
@@ -25,13 +26,27 @@ FairRule r = (r ≡ 1) ⊎ (r ≡ 2)
 
 -- where somebody waits, somebody competes
 some-compete : (s : RackState) → anyBelow 64 (waits s) ≡ true → ((a : ℕ) → a < 64 → competes s a ≡ false) → ⊥
-unfolding competes
-some-compete s some none = any-not-none 64 (waits s) some none
+unfolding competes somePreferred
+some-compete s some none = any-not-none 64 (waits s) some (λ a h. nobody-waits (waits s a) (preferred s a) (rw none-first at (none a h)))
+  where
+    not-first : (w p t : Bool) → (w && (p || not t)) ≡ false → (w && p) ≡ false
+    not-first true true t e = e
+    not-first true false t e = refl
+    not-first false p t e = refl
+
+    none-first : somePreferred s ≡ false
+    none-first = none-any 64 (waitsPreferred s) (λ a h. not-first (waits s a) (preferred s a) (somePreferred s) (none a h))
+
+    nobody-waits : (w p : Bool) → (w && (p || true)) ≡ false → w ≡ false
+    nobody-waits true true e = e
+    nobody-waits true false e = e
+    nobody-waits false p e = refl
 
 -- under the fair rules each waiting card competes
 pub all-compete : (s : RackState) → FairRule (s .table .rule) → (a : ℕ) → waits s a ≡ true → competes s a ≡ true
-unfolding competes
-all-compete s r a t = t
+unfolding competes goesFirst byRule
+all-compete s (inl e) a t = rw (t, e)
+all-compete s (inr e) a t = rw (t, e)
 
 -- ---- the greatest competing number
 

@@ -1,37 +1,44 @@
--- What an arbitration makes of a state, under the three rules, and an event by its letter, as document 01 has it. Assumes nothing.
+-- What an arbitration makes of a state, under the five rules, and an event by its letter, as documents 01 and 02 have it. Assumes nothing.
 use Prim.Native.Nat.{ℕ, zero, suc, _+_, _-_, _*_, _^_, _%_}
-use mathlib.Core.Bool.{Bool, false, cond, not, _&&_}
+use mathlib.Core.Bool.{Bool, true, false, cond, not, _&&_, _||_}
 use mathlib.Core.List.{List, [], _∷_, _++_}
 use lib.Dec.{ltb, leb, eqb}
-use lib.ListN.{getD, set}
+use lib.ListN.{getD, set, replicate}
 use Rattle.cards.specs.Below.{anyBelow, tabulate}
 use Rattle.lines.specs.Settle.{refusal, settledOr}
 use Rattle.lines.specs.declared.Settled.{Settled}
 use Rattle.rack.specs.Events.{answered, answeredBy, requestOf, releaseOf}
-use Rattle.rack.specs.State.{waitsIn, waits, countOf, isClosed, wellFormed, withMarks, withBus}
+use Rattle.rack.specs.State.{isIn, waits, countOf, inBatch, isInhibited, isClosed, wellFormed, withMarks, withSets, withBus}
 use Rattle.rack.specs.declared.Bus.the-variants.{Held}
 use Rattle.rack.specs.declared.Outcome.{Outcome}
 use Rattle.rack.specs.declared.RackState.{RackState}
 
--- One of three by the rule's number: 0 fixed, 1 round-robin, 2 arrival. The last is for any other number. No well-formed state has one
--- (`formed-rule` of the proofs), so no event of document 01 comes to it: it only makes the definition total.
-unfoldable pub byRule : {A : Type 0} → ℕ → A → A → A → A → A
-byRule zero fixed robin arrival other = fixed
-byRule (suc zero) fixed robin arrival other = robin
-byRule (suc (suc zero)) fixed robin arrival other = arrival
-byRule (suc (suc (suc n))) fixed robin arrival other = other
+-- One of five by the rule's number: 0 fixed, 1 round-robin, 2 arrival, 3 batch, 4 inhibit. The last is for any other number. No well-formed state
+-- has one (`formed-rule` of the proofs), so no event of the documents comes to it: it only makes the definition total.
+unfoldable pub byRule : {A : Type 0} → ℕ → A → A → A → A → A → A → A
+byRule zero fixed robin arrival batch inhibit other = fixed
+byRule (suc zero) fixed robin arrival batch inhibit other = robin
+byRule (suc (suc zero)) fixed robin arrival batch inhibit other = arrival
+byRule (suc (suc (suc zero))) fixed robin arrival batch inhibit other = batch
+byRule (suc (suc (suc (suc zero)))) fixed robin arrival batch inhibit other = inhibit
+byRule (suc (suc (suc (suc (suc n))))) fixed robin arrival batch inhibit other = other
 
 -- how many lines the rule has; 0 lines are refused by every settling
-unfoldable pub linesOf : RackState → ℕ
-linesOf s = byRule (s .table .rule) (s .table .k) (s .table .k + 1) (s .table .k * 2) 0
+unfoldable pub linesBy : ℕ → ℕ → ℕ
+linesBy k rule = byRule rule k (k + 1) (k * 2) k k 0
 
--- the competing number of a card a with this waiting count: under rule 0 a; under rule 1 a, plus 2 ^ k if a is less than the last winner; under
--- rule 2 a plus 2 ^ k times its count
+abbrev pub linesOf : RackState → ℕ
+linesOf s = linesBy (s .table .k) (s .table .rule)
+
+-- the competing number of a card a with this waiting count: under rules 0, 3 and 4 a; under rule 1 a, plus 2 ^ k if a is less than the last
+-- winner; under rule 2 a plus 2 ^ k times its count
 unfoldable pub numberBy : ℕ → ℕ → ℕ → ℕ → ℕ → ℕ
 numberBy k rule last count a =
     byRule rule a
     (cond (ltb a last) (a + 2 ^ k) a)
     (a + 2 ^ k * count)
+    a
+    a
     0
 
 -- that of a waiting card a in the state s
@@ -39,9 +46,29 @@ unfoldable pub numberOf : RackState → ℕ → ℕ
 unfolding numberBy
 numberOf s a = numberBy (s .table .k) (s .table .rule) (s .last) (countOf s a) a
 
--- the waiting cards compete
+-- Under rule 3 the cards of the batch go first, under rule 4 those that are not inhibited; under the others no card goes before another.
+unfoldable pub goesFirst : ℕ → Bool → Bool → Bool
+goesFirst rule batched inhibited = byRule rule true true true batched (not inhibited) true
+
+abbrev pub preferred : RackState → ℕ → Bool
+preferred s a = goesFirst (s .table .rule) (inBatch s a) (isInhibited s a)
+
+abbrev pub waitsPreferred : RackState → ℕ → Bool
+waitsPreferred s a = waits s a && preferred s a
+
+unfoldable pub somePreferred : RackState → Bool
+somePreferred s = anyBelow 64 (waitsPreferred s)
+
+-- The waiting cards that go first compete. Where none of them waits, all waiting cards become the batch, or every inhibition is cleared: so all compete.
 unfoldable pub competes : RackState → ℕ → Bool
-competes s a = waits s a
+competes s a = waits s a && (preferred s a || not (somePreferred s))
+
+-- the batch and the inhibited cards at the arbitration, the winner still in the batch
+unfoldable pub batchNow : RackState → List Bool
+batchNow s = cond (not (somePreferred s) && eqb (s .table .rule) 3) (s .waiting) (s .batch)
+
+unfoldable pub inhibitedNow : RackState → List Bool
+inhibitedNow s = cond (not (somePreferred s) && eqb (s .table .rule) 4) (replicate 64 false) (s .inhibited)
 
 -- the competing numbers of the cards below n, by rising card
 unfoldable pub competingBelow : RackState → ℕ → List ℕ
@@ -61,15 +88,15 @@ winnerOf s = settlingOf s .lines % 2 ^ s .table .k
 
 -- refusal 16: under rule 2 a loser's count is already 2 ^ k - 1
 abbrev pub fullLoser : ℕ → List Bool → List ℕ → ℕ → ℕ → Bool
-fullLoser full waiting counts w a = not (eqb a w) && waitsIn waiting a && leb full (getD counts a 0)
+fullLoser full waiting counts w a = not (eqb a w) && isIn waiting a && leb full (getD counts a 0)
 
 unfoldable pub someLoserFull : RackState → ℕ → Bool
 someLoserFull s w = eqb (s .table .rule) 2 && anyBelow 64 (fullLoser (2 ^ s .table .k - 1) (s .waiting) (s .counts) w)
 
--- The winner stops waiting, its count becomes 0, it holds the bus and is the last winner. Under rule 2 every loser's count grows by 1: losers
--- are the cards that still wait.
+-- The winner stops waiting, its count becomes 0, it leaves the batch, it holds the bus and is the last winner. Under rule 2 every loser's count
+-- grows by 1: losers are the cards that still wait.
 abbrev pub oneMore : List Bool → List ℕ → ℕ → ℕ
-oneMore waiting counts a = cond (waitsIn waiting a) (getD counts a 0 + 1) (getD counts a 0)
+oneMore waiting counts a = cond (isIn waiting a) (getD counts a 0 + 1) (getD counts a 0)
 
 unfoldable pub losersCounted : ℕ → List Bool → List ℕ → List ℕ
 losersCounted rule waiting counts = cond (eqb rule 2) (tabulate 64 (oneMore waiting counts)) counts
@@ -81,7 +108,8 @@ abbrev pub countsAfter : RackState → ℕ → List ℕ
 countsAfter s w = losersCounted (s .table .rule) (winnerStopped s w) (set (s .counts) w 0)
 
 unfoldable pub granted : RackState → ℕ → RackState
-granted s w = withBus (withMarks s (winnerStopped s w) (countsAfter s w)) w (Held w)
+granted s w =
+    withSets (withBus (withMarks s (winnerStopped s w) (countsAfter s w)) w (Held w)) (set (batchNow s) w false) (inhibitedNow s)
 
 -- the outcome of a grant to w with these settled lines
 abbrev pub grantTo : RackState → ℕ → Settled → Outcome

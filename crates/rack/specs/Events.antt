@@ -1,10 +1,11 @@
--- What a request and a release make of a state, as document 01 has it. Assumes nothing.
+-- What a request and a release make of a state, as documents 01 and 02 have it. Assumes nothing.
 use Prim.Native.Nat.{ℕ}
 use mathlib.Core.Bool.{Bool, true, cond, not}
+use mathlib.Core.List.{List}
 use lib.Dec.{eqb}
 use lib.ListN.{set}
 use Rattle.cards.specs.Table.{inTable}
-use Rattle.rack.specs.State.{waits, isHolder, wellFormed, withMarks, withBus}
+use Rattle.rack.specs.State.{waits, isHolder, wellFormed, withMarks, withSets, withBus}
 use Rattle.rack.specs.declared.Bus.the-variants.{Free}
 use Rattle.rack.specs.declared.Outcome.{Outcome}
 use Rattle.rack.specs.declared.RackState.{RackState}
@@ -33,15 +34,18 @@ requestBy formed s a = answeredBy (requestRefusal formed s a) s (answered (reque
 abbrev pub requestOf : RackState → ℕ → Outcome
 requestOf s a = requestBy (wellFormed s) s a
 
--- a release: 17, 11, 15, or the bus becomes free, and the last winner stays
+-- a release: 17, 11, 15, or the bus becomes free, and the last winner stays; under rule 4 the card a is inhibited
 unfoldable pub releaseRefusal : Bool → RackState → ℕ → ℕ
 releaseRefusal formed s a = cond (not formed) 17 (cond (not (inTable (s .table .slots) a)) 11 (cond (not (isHolder (s .bus) a)) 15 0))
 
-abbrev pub released : RackState → RackState
-released s = withBus s (s .last) Free
+abbrev pub inhibitedBy : ℕ → List Bool → ℕ → List Bool
+inhibitedBy rule inhibited a = cond (eqb rule 4) (set inhibited a true) inhibited
+
+abbrev pub released : RackState → ℕ → RackState
+released s a = withSets (withBus s (s .last) Free) (s .batch) (inhibitedBy (s .table .rule) (s .inhibited) a)
 
 abbrev pub releaseBy : Bool → RackState → ℕ → Outcome
-releaseBy formed s a = answeredBy (releaseRefusal formed s a) s (answered (released s) 0)
+releaseBy formed s a = answeredBy (releaseRefusal formed s a) s (answered (released s a) 0)
 
 abbrev pub releaseOf : RackState → ℕ → Outcome
 releaseOf s a = releaseBy (wellFormed s) s a

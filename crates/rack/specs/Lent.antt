@@ -12,9 +12,30 @@ use Rattle.rack.specs.declared.Outcome.{Outcome}
 use Rattle.rack.specs.declared.RackState.{RackState}
 use Rattle.rack.specs.declared.Reply.{Reply}
 
+-- the marks of the cards: who waits, the waiting counts, the batch, and who is inhibited
+pub record Marks : Type 0 where
+  pub waiting : List Bool
+  pub counts : List ℕ
+  pub batch : List Bool
+  pub inhibited : List Bool
+
+abbrev pub marks : List Bool → List ℕ → List Bool → List Bool → Marks
+marks waiting counts batch inhibited = record { waiting = waiting; counts = counts; batch = batch; inhibited = inhibited }
+
+abbrev pub marksOf : RackState → Marks
+marksOf s = marks (s .waiting) (s .counts) (s .batch) (s .inhibited)
+
 -- the state of these parts
-abbrev pub stateOf : Table → List Bool → List ℕ → Hold → RackState
-stateOf table waiting counts hold = record { table = table; waiting = waiting; counts = counts; last = hold .last; bus = hold .bus }
+abbrev pub stateOf : Table → Marks → Hold → RackState
+stateOf table m hold = record {
+  table = table;
+  waiting = m .waiting;
+  counts = m .counts;
+  batch = m .batch;
+  inhibited = m .inhibited;
+  last = hold .last;
+  bus = hold .bus;
+}
 
 abbrev pub tableOf : ℕ → ℕ → List ℕ → Table
 tableOf k rule slots = record { k = k; rule = rule; slots = slots }
@@ -33,9 +54,9 @@ abbrev pub quietReply : Hold → ℕ → Reply
 quietReply hold n = record { hold = hold; answer = n; winner = 0; lines = 0; stages = 0 }
 
 -- and back
-abbrev pub outcomeFrom : Table → List Bool → List ℕ → Reply → Outcome
-outcomeFrom table waiting counts r = record {
-  state = stateOf table waiting counts (r .hold);
+abbrev pub outcomeFrom : Table → Marks → Reply → Outcome
+outcomeFrom table m r = record {
+  state = stateOf table m (r .hold);
   answer = r .answer;
   winner = r .winner;
   lines = r .lines;
@@ -43,21 +64,24 @@ outcomeFrom table waiting counts r = record {
 }
 
 -- the reply and the marks afterwards are those of the outcome o
-pub record Leaves (o : Outcome) (r : Reply) (waiting : List Bool) (counts : List ℕ) : Type 0 where
+pub record Leaves (o : Outcome) (r : Reply) (m : Marks) : Type 0 where
   pub reply : r ≡ replyOf o
-  pub waiting-left : waiting ≡ o .state .waiting
-  pub counts-left : counts ≡ o .state .counts
+  pub marks-left : m ≡ marksOf (o .state)
 
--- A request looks at no width and no rule, an arbitration at no slot, a release at no mark: so each is as it says whatever those are.
+-- A request looks at no width, no rule and no set, an arbitration at no slot, a release at no width, no count and no batch, nor at who waits: so each
+-- is as it says whatever those are.
 
 pub record Requests (formed : Bool) (slots : List ℕ) (waiting : List Bool) (counts : List ℕ) (hold : Hold) (a : ℕ)
     (r : Reply) (waiting' : List Bool) (counts' : List ℕ) : Type 0 where
-  pub left : (k rule : ℕ) → Leaves (requestBy formed (stateOf (tableOf k rule slots) waiting counts hold) a) r waiting' counts'
+  pub left : (k rule : ℕ) (batch inhibited : List Bool)
+      → Leaves (requestBy formed (stateOf (tableOf k rule slots) (marks waiting counts batch inhibited) hold) a) r
+      (marks waiting' counts' batch inhibited)
 
-pub record Releases (formed : Bool) (slots : List ℕ) (hold : Hold) (a : ℕ) (r : Reply) : Type 0 where
-  pub left : (k rule : ℕ) (waiting : List Bool) (counts : List ℕ)
-      → Leaves (releaseBy formed (stateOf (tableOf k rule slots) waiting counts hold) a) r waiting counts
+pub record Releases (formed : Bool) (rule : ℕ) (slots : List ℕ) (inhibited : List Bool) (hold : Hold) (a : ℕ)
+    (r : Reply) (inhibited' : List Bool) : Type 0 where
+  pub left : (k : ℕ) (waiting : List Bool) (counts : List ℕ) (batch : List Bool)
+      → Leaves (releaseBy formed (stateOf (tableOf k rule slots) (marks waiting counts batch inhibited) hold) a) r
+      (marks waiting counts batch inhibited')
 
-pub record Arbitrates (formed : Bool) (k rule : ℕ) (waiting : List Bool) (counts : List ℕ) (hold : Hold)
-    (r : Reply) (waiting' : List Bool) (counts' : List ℕ) : Type 0 where
-  pub left : (slots : List ℕ) → Leaves (arbitrateBy formed (stateOf (tableOf k rule slots) waiting counts hold)) r waiting' counts'
+pub record Arbitrates (formed : Bool) (k rule : ℕ) (m : Marks) (hold : Hold) (r : Reply) (m' : Marks) : Type 0 where
+  pub left : (slots : List ℕ) → Leaves (arbitrateBy formed (stateOf (tableOf k rule slots) m hold)) r m'

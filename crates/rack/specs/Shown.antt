@@ -1,12 +1,27 @@
--- What each card shows the lines, which the arbitration hands to the settling in place of the list of competing numbers. Assumes nothing.
+-- Who competes, and what each card shows the lines, which the arbitration hands to the settling in place of the list of competing numbers. Assumes nothing.
 use Prim.Native.Nat.{ℕ}
-use mathlib.Core.Bool.{Bool, cond}
+use mathlib.Core.Bool.{Bool, cond, _&&_, _||_}
 use mathlib.Core.List.{List}
 use lib.ListN.{getD}
-use Rattle.rack.specs.Arbitrate.{numberBy}
-use Rattle.rack.specs.State.{waitsIn}
+use Rattle.cards.specs.Below.{tabulate}
+use Rattle.lines.specs.Settle.{refusal, settledOr}
+use Rattle.lines.specs.declared.Settled.{Settled}
+use Rattle.rack.specs.Arbitrate.{linesBy, numberBy, goesFirst}
+use Rattle.rack.specs.Lent.{Marks}
+use Rattle.rack.specs.State.{isIn}
 
--- its number if it waits, and else 0, which no line tells from silence
-unfoldable pub shownAt : ℕ → ℕ → ℕ → List Bool → List ℕ → ℕ → ℕ
-shownAt k rule last waiting counts a =
-    cond (waitsIn waiting a) (numberBy k rule last (getD counts a 0) a) 0
+-- a waiting card that goes first, from the marks alone
+abbrev pub firstAt : ℕ → List Bool → List Bool → List Bool → ℕ → Bool
+firstAt rule waiting batch inhibited a = isIn waiting a && goesFirst rule (isIn batch a) (isIn inhibited a)
+
+-- A card's number if it waits and goes first, or if the sets are made anew for all that wait; and else 0, which no line tells from silence.
+unfoldable pub shownAt : ℕ → ℕ → ℕ → Bool → Marks → ℕ → ℕ
+shownAt k rule last anew m a =
+    cond (isIn (m .waiting) a)
+    (cond (goesFirst rule (isIn (m .batch) a) (isIn (m .inhibited) a) || anew) (numberBy k rule last (getD (m .counts) a 0) a) 0)
+    0
+
+-- the settling of what all cards show
+abbrev pub shownSettling : ℕ → ℕ → ℕ → Bool → Marks → Settled
+shownSettling k rule last anew m =
+    let shown = tabulate 64 (shownAt k rule last anew m) in settledOr (refusal (linesBy k rule) shown 13) (linesBy k rule) shown

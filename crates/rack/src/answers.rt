@@ -2,11 +2,12 @@
 ghost use mathlib.Core.Bool.{cond, not};
 ghost use mathlib.Core.Path.{_≡_};
 ghost use Rattle.rack.specs.Events.{answered};
-ghost use Rattle.rack.specs.Lent.{quietReply, outcomeFrom};
+ghost use Rattle.rack.specs.Lent.{marks, quietReply, outcomeFrom};
 use super::Hold;
 use super::Outcome;
 use super::RackState;
 use super::Reply;
+use super::lent::state_of;
 use cards::Table;
 
 // The first refusal that fits: 17 for a state that is not well formed, then the number of the first test that holds; or 0.
@@ -52,19 +53,19 @@ pub(crate) fn refused(s: RackState, number: u8) -> Outcome
 }
 
 // The outcome of which a reply leaves out the table and the marks.
-pub(crate) fn outcome_of(table: Table, waiting: [bool; 64], counts: [u8; 64], r: Reply) -> Outcome
-    ensures { λ o. ⌜ o ≡ outcomeFrom table waiting counts r ⌝ }
+pub(crate) fn outcome_of(
+    table: Table,
+    waiting: [bool; 64],
+    counts: [u8; 64],
+    batch: [bool; 64],
+    inhibited: [bool; 64],
+    r: Reply,
+) -> Outcome
+    ensures { λ o. ⌜ o ≡ outcomeFrom table (marks waiting counts batch inhibited) r ⌝ }
 {
     let hold = r.hold;
-    let bus = hold.bus;
     Outcome {
-        state: RackState {
-            table,
-            waiting,
-            counts,
-            last: hold.last,
-            bus,
-        },
+        state: state_of(table, waiting, counts, batch, inhibited, hold),
         answer: r.answer,
         winner: r.winner,
         lines: r.lines,

@@ -1,52 +1,66 @@
 // Arbitration: the competing numbers, their settling, and the grant.
 // What is called for each card takes the numbers that it reads, and not the state, which would be copied each time.
 ghost use Prim.Native.Nat.{ℕ, _+_, _*_, _^_, _≤_, _<_};
-ghost use mathlib.Core.Bool.{true, false, cond};
+ghost use mathlib.Core.Bool.{Bool, true, cond, not, _||_};
 ghost use mathlib.Core.List.{List};
 ghost use mathlib.Core.Path.{_≡_};
 ghost use lib.ListN.{getD};
 ghost use Rattle.cards.specs.Below.{anyBelow, tabulate};
-ghost use Rattle.rack.specs.Arbitrate.{arbitrated, byRule, fullLoser, numberBy, oneMore, settlingOf, someLoserFull, wonBy};
-ghost use Rattle.rack.specs.Lent.{stateOf, tableOf, Leaves};
-ghost use Rattle.rack.specs.Shown.{shownAt};
-ghost use Rattle.rack.specs.State.{waitsIn};
-ghost use Rattle.rack.specs.declared.Bus.{Bus};
+ghost use Rattle.rack.specs.Arbitrate.{arbitrated, fullLoser, goesFirst, linesBy, numberBy, oneMore, somePreferred, someLoserFull, wonBy};
+ghost use Rattle.rack.specs.Lent.{marks, stateOf, tableOf, Leaves};
+ghost use Rattle.rack.specs.Shown.{shownAt, shownSettling};
+ghost use Rattle.rack.specs.State.{isIn};
 ghost use Rattle.rack.specs.declared.Hold.{Hold};
+ghost use Rattle.rack.specs.declared.RackState.{RackState};
 use super::Bus;
 use super::Hold;
 use super::Reply;
 use super::answers::quiet;
 use super::marks::span;
+use super::sets::clear_inhibitions;
+use super::sets::renew_batch;
+use super::sets::some_first;
 use lines::Settled;
-
-// Whether some card waits.
-pub(crate) fn somebody_waits(waiting: &[bool; 64]) -> bool
-    ensures { λ r. ⌜ r ≡ anyBelow 64 (waitsIn (now (waiting .entry))) ⌝ }
-{
-    let mut some = false;
-    for a in 0..64usize {
-        some = some | waiting[a];
-    }
-    some
-}
 
 // How many lines the rule has. Another rule has none, and no settling takes 0 lines.
 pub(crate) fn lines_of(k: u8, rule: u8) -> u8
     requires { ⌜ k ≤ 6 ⌝ }
-    ensures { λ r. ⌜ r ≡ byRule rule k (k + 1) (k * 2) 0 ⌝ }
+    ensures { λ r. ⌜ r ≡ linesBy k rule ⌝ }
 {
     match rule {
         0 => k,
         1 => k + 1,
         2 => k * 2,
+        3 => k,
+        4 => k,
         _ => 0,
     }
 }
 
-// The competing number of the card a, where the span is 2 to the number width.
-pub(crate) fn number_by(rule: u8, span: u16, last: u8, a: usize, count: u8) -> u16
+// A card that does not compete shows the lines 0, which no line tells from silence: so the list need not be gathered from the cards that do.
+pub(crate) fn shown_by(competes: bool, number: u16) -> u16
+    ensures { λ r. ⌜ r ≡ cond competes number 0 ⌝ }
+{
+    if competes {
+        return number;
+    }
+    0
+}
+
+// What a waiting card a shows the lines: its competing number, where the span is 2 to the number width; or 0 under rules 3 and 4, if it does not go
+// first and the sets are not made anew. One match for both, since the loop over the cards then has a body for each rule.
+pub(crate) fn offer_by(
+    rule: u8,
+    span: u16,
+    last: u8,
+    a: usize,
+    count: u8,
+    anew: bool,
+    batched: bool,
+    inhibited: bool,
+) -> u16
     requires { ⌜ (a < 64) × (span ≤ 64) ⌝ }
-    ensures { λ r. ⌜ ((k : ℕ) → span ≡ 2 ^ k → r ≡ numberBy k rule last count a) ⌝ }
+    ensures { λ r. ⌜ ((k : ℕ) → span ≡ 2 ^ k → r ≡ cond (goesFirst rule batched inhibited || anew) (numberBy k rule last count a) 0) ⌝ }
 {
     let own = a as u16;
     match rule {
@@ -58,18 +72,10 @@ pub(crate) fn number_by(rule: u8, span: u16, last: u8, a: usize, count: u8) -> u
             own
         }
         2 => own + span * (count as u16),
+        3 => shown_by(batched | anew, own),
+        4 => shown_by(!inhibited | anew, own),
         _ => 0,
     }
-}
-
-// A card that does not compete shows the lines 0, which no line tells from silence: so the list need not be gathered from the cards that do.
-pub(crate) fn shown(competes: bool, number: u16) -> u16
-    ensures { λ r. ⌜ r ≡ cond competes number 0 ⌝ }
-{
-    if competes {
-        return number;
-    }
-    0
 }
 
 // What each card shows the lines.
@@ -77,16 +83,21 @@ pub(crate) fn numbers_of(
     k: u8,
     rule: u8,
     last: u8,
+    anew: bool,
     waiting: &[bool; 64],
     counts: &[u8; 64],
+    batch: &[bool; 64],
+    inhibited: &[bool; 64],
 ) -> [u16; 64]
     requires { ⌜ k ≤ 6 ⌝ }
-    ensures { λ r. ⌜ r ≡ tabulate 64 (shownAt k rule last (now (waiting .entry)) (now (counts .entry))) ⌝ }
+    ensures { λ r. ⌜ r ≡ tabulate 64 (shownAt k rule last anew
+        (marks (now (waiting .entry)) (now (counts .entry)) (now (batch .entry)) (now (inhibited .entry)))) ⌝ }
 {
     let span = span(k);
     let mut numbers = [0u16; 64];
     for a in 0..64usize {
-        numbers[a] = shown(waiting[a], number_by(rule, span, last, a, counts[a]));
+        let offer = offer_by(rule, span, last, a, counts[a], anew, batch[a], inhibited[a]);
+        numbers[a] = shown_by(waiting[a], offer);
     }
     numbers
 }
@@ -96,15 +107,18 @@ pub(crate) fn settling_of(
     k: u8,
     rule: u8,
     last: u8,
+    anew: bool,
     waiting: &[bool; 64],
     counts: &[u8; 64],
+    batch: &[bool; 64],
+    inhibited: &[bool; 64],
 ) -> Settled
     requires { ⌜ k ≤ 6 ⌝ }
-    ensures { λ r. ⌜ ((slots : List ℕ) (bus : Bus)
-        → r ≡ settlingOf (stateOf (tableOf k rule slots) (now (waiting .entry)) (now (counts .entry)) (record { last = last; bus = bus }))) ⌝ }
+    ensures { λ r. ⌜ r ≡ shownSettling k rule last anew
+        (marks (now (waiting .entry)) (now (counts .entry)) (now (batch .entry)) (now (inhibited .entry))) ⌝ }
 {
     let m = lines_of(k, rule);
-    let numbers = numbers_of(k, rule, last, waiting, counts);
+    let numbers = numbers_of(k, rule, last, anew, waiting, counts, batch, inhibited);
     let mut stages = [0u16; 13];
     lines::settle(m, &numbers, &mut stages)
 }
@@ -130,8 +144,8 @@ pub(crate) fn some_loser_full(
     w: u8,
 ) -> bool
     requires { ⌜ k ≤ 6 ⌝ }
-    ensures { λ r. ⌜ ((slots : List ℕ) (hold : Hold)
-        → r ≡ someLoserFull (stateOf (tableOf k rule slots) (now (waiting .entry)) (now (counts .entry)) hold) w) ⌝ }
+    ensures { λ r. ⌜ ((slots : List ℕ) (batch inhibited : List Bool) (hold : Hold)
+        → r ≡ someLoserFull (stateOf (tableOf k rule slots) (marks (now (waiting .entry)) (now (counts .entry)) batch inhibited) hold) w) ⌝ }
 {
     if rule == 2 {
         let full = (span(k) - 1) as u8;
@@ -153,7 +167,7 @@ pub(crate) fn one_more(waits: bool, count: u8) -> u8
 
 // The counts, one more for each card that waits.
 pub(crate) fn one_more_each(waiting: &[bool; 64], counts: &[u8; 64]) -> [u8; 64]
-    requires { ⌜ ((a : ℕ) → a < 64 → waitsIn (now waiting) a ≡ true → getD (now counts) a 0 < 255) ⌝ }
+    requires { ⌜ ((a : ℕ) → a < 64 → isIn (now waiting) a ≡ true → getD (now counts) a 0 < 255) ⌝ }
     ensures { λ r. ⌜ r ≡ tabulate 64 (oneMore (now (waiting .entry)) (now (counts .entry))) ⌝ }
 {
     let mut next = [0u8; 64];
@@ -169,21 +183,28 @@ pub(crate) fn granted_in(
     rule: u8,
     waiting: &mut [bool; 64],
     counts: &mut [u8; 64],
+    batch: &mut [bool; 64],
+    inhibited: &mut [bool; 64],
     hold: Hold,
+    anew: bool,
     w: u8,
     t: Settled,
 ) -> Reply
     requires { ⌜ (w < 64) × (k ≤ 6) ⌝ }
-    ensures { λ r. ⌜ ((slots : List ℕ)
-        → Leaves (wonBy (stateOf (tableOf k rule slots) (now (waiting .entry)) (now (counts .entry)) hold) w t) r
-        (now (waiting .exit)) (now (counts .exit))) ⌝ }
+    ensures { λ r. ⌜ ((slots : List ℕ) (s : RackState)
+        → s ≡ stateOf (tableOf k rule slots) (marks (now (waiting .entry)) (now (counts .entry)) (now (batch .entry)) (now (inhibited .entry))) hold
+        → anew ≡ not (somePreferred s)
+        → Leaves (wonBy s w t) r (marks (now (waiting .exit)) (now (counts .exit)) (now (batch .exit)) (now (inhibited .exit)))) ⌝ }
 {
     if some_loser_full(k, rule, waiting, counts, w) {
         return quiet(hold, 16);
     }
+    renew_batch(rule, anew, waiting, batch);
+    clear_inhibitions(rule, anew, inhibited);
     let i = w as usize;
     waiting[i] = false;
     counts[i] = 0;
+    batch[i] = false;
     if rule == 2 {
         let grown = one_more_each(waiting, counts);
         *counts = grown;
@@ -207,16 +228,20 @@ pub(crate) fn arbitrated_in(
     rule: u8,
     waiting: &mut [bool; 64],
     counts: &mut [u8; 64],
+    batch: &mut [bool; 64],
+    inhibited: &mut [bool; 64],
 ) -> Reply
     requires { ⌜ k ≤ 6 ⌝ }
     ensures { λ r. ⌜ ((slots : List ℕ)
-        → Leaves (arbitrated (stateOf (tableOf k rule slots) (now (waiting .entry)) (now (counts .entry)) hold)) r
-        (now (waiting .exit)) (now (counts .exit))) ⌝ }
+        → Leaves (arbitrated (stateOf (tableOf k rule slots)
+        (marks (now (waiting .entry)) (now (counts .entry)) (now (batch .entry)) (now (inhibited .entry))) hold)) r
+        (marks (now (waiting .exit)) (now (counts .exit)) (now (batch .exit)) (now (inhibited .exit)))) ⌝ }
 {
-    let t = settling_of(k, rule, hold.last, waiting, counts);
+    let anew = !some_first(rule, waiting, batch, inhibited);
+    let t = settling_of(k, rule, hold.last, anew, waiting, counts, batch, inhibited);
     if t.answer != 0 {
         return quiet(hold, 17);
     }
     let w = (t.lines % span(k)) as u8;
-    granted_in(k, rule, waiting, counts, hold, w, t)
+    granted_in(k, rule, waiting, counts, batch, inhibited, hold, anew, w, t)
 }

@@ -1,16 +1,43 @@
 // The events, on marks that the caller lends: a run over many events keeps its marks in one place and finds out once whether the state is well
 // formed, since events keep it so. Each is told that, and refuses with 17 where it is told no.
-ghost use Rattle.rack.specs.Lent.{Requests, Releases, Arbitrates};
+ghost use mathlib.Core.Path.{_≡_};
+ghost use Rattle.rack.specs.Lent.{marks, stateOf, Requests, Releases, Arbitrates};
 use super::Bus;
 use super::Hold;
+use super::RackState;
 use super::Reply;
 use super::answers::quiet;
 use super::answers::refusal_by;
 use super::arbitration::arbitrated_in;
-use super::arbitration::somebody_waits;
 use super::marks::is_closed;
 use super::marks::is_holder;
 use super::marks::waits_at;
+use super::sets::inhibit;
+use super::sets::some_marked;
+use cards::Table;
+
+// The state of these parts.
+pub fn state_of(
+    table: Table,
+    waiting: [bool; 64],
+    counts: [u8; 64],
+    batch: [bool; 64],
+    inhibited: [bool; 64],
+    hold: Hold,
+) -> RackState
+    ensures { λ r. ⌜ r ≡ stateOf table (marks waiting counts batch inhibited) hold ⌝ }
+{
+    let bus = hold.bus;
+    RackState {
+        table,
+        waiting,
+        counts,
+        batch,
+        inhibited,
+        last: hold.last,
+        bus,
+    }
+}
 
 // A card begins to wait, with count 0: 17, 11 and 12, or 0.
 pub fn request_in(
@@ -36,9 +63,16 @@ pub fn request_in(
     quiet(hold, 0)
 }
 
-// The holder lets the bus go, and the last winner stays: 17, 11 and 15, or 0.
-pub fn release_in(formed: bool, slots: &[u8; 64], hold: Hold, a: u8) -> Reply
-    ensures { λ r. ⌜ Releases formed (now (slots .entry)) hold a r ⌝ }
+// The holder lets the bus go, and the last winner stays; under rule 4 the holder is inhibited: 17, 11 and 15, or 0.
+pub fn release_in(
+    formed: bool,
+    rule: u8,
+    slots: &[u8; 64],
+    inhibited: &mut [bool; 64],
+    hold: Hold,
+    a: u8,
+) -> Reply
+    ensures { λ r. ⌜ Releases formed rule (now (slots .entry)) (now (inhibited .entry)) hold a r (now (inhibited .exit)) ⌝ }
 {
     let bus = hold.bus;
     let known = cards::in_table(slots, a);
@@ -47,6 +81,7 @@ pub fn release_in(formed: bool, slots: &[u8; 64], hold: Hold, a: u8) -> Reply
     if refusal != 0 {
         return quiet(hold, refusal);
     }
+    inhibit(rule, inhibited, a);
     quiet(
         Hold {
             last: hold.last,
@@ -56,24 +91,27 @@ pub fn release_in(formed: bool, slots: &[u8; 64], hold: Hold, a: u8) -> Reply
     )
 }
 
-// The waiting cards settle, and the winner holds the bus: 17, 13, 14 and 16, or 0.
+// The competing cards settle, and the winner holds the bus: 17, 13, 14 and 16, or 0.
 pub fn arbitrate_in(
     formed: bool,
     k: u8,
     rule: u8,
     waiting: &mut [bool; 64],
     counts: &mut [u8; 64],
+    batch: &mut [bool; 64],
+    inhibited: &mut [bool; 64],
     hold: Hold,
 ) -> Reply
-    ensures { λ r. ⌜ Arbitrates formed k rule (now (waiting .entry)) (now (counts .entry)) hold r
-        (now (waiting .exit)) (now (counts .exit)) ⌝ }
+    ensures { λ r. ⌜ Arbitrates formed k rule
+        (marks (now (waiting .entry)) (now (counts .entry)) (now (batch .entry)) (now (inhibited .entry))) hold r
+        (marks (now (waiting .exit)) (now (counts .exit)) (now (batch .exit)) (now (inhibited .exit))) ⌝ }
 {
     let bus = hold.bus;
     let closed = is_closed(bus);
-    let some = somebody_waits(waiting);
+    let some = some_marked(waiting);
     let refusal = refusal_by(formed & (k <= 6), closed, 13, !some, 14);
     if refusal != 0 {
         return quiet(hold, refusal);
     }
-    arbitrated_in(hold, k, rule, waiting, counts)
+    arbitrated_in(hold, k, rule, waiting, counts, batch, inhibited)
 }

@@ -20,6 +20,7 @@ mod answers;
 mod arbitration;
 pub mod lent;
 mod marks;
+mod sets;
 
 // The bus is free, or held by the card of that number.
 pub enum Bus {
@@ -27,11 +28,14 @@ pub enum Bus {
     Held(u8),
 }
 
-// The state: the table, who waits, the waiting counts, the last winner (0 for none yet), and the bus. Arrays go by arbitration number.
+// The state: the table, who waits, the waiting counts, the batch (rule 3), who is inhibited (rule 4), the last winner (0 for none yet), and the bus.
+// Arrays go by arbitration number.
 pub struct RackState {
     pub table: Table,
     pub waiting: [bool; 64],
     pub counts: [u8; 64],
+    pub batch: [bool; 64],
+    pub inhibited: [bool; 64],
     pub last: u8,
     pub bus: Bus,
 }
@@ -76,7 +80,7 @@ pub fn well_formed(s: RackState) -> bool
     false
 }
 
-// A freshly loaded state: nobody waits, counts 0, last winner 0, bus free.
+// A freshly loaded state: nobody waits, counts 0, the two sets empty, last winner 0, bus free.
 pub fn fresh(t: Table) -> RackState
     ensures { λ r. ⌜ r ≡ freshOf t ⌝ }
 {
@@ -84,6 +88,8 @@ pub fn fresh(t: Table) -> RackState
         table: t,
         waiting: [false; 64],
         counts: [0; 64],
+        batch: [false; 64],
+        inhibited: [false; 64],
         last: 0,
         bus: Bus::Free,
     }
@@ -100,30 +106,36 @@ pub fn request(s: RackState, a: u8) -> Outcome
     let bus = s.bus;
     let hold = Hold { last: s.last, bus };
     let r = request_in(well_formed(s), &slots, &mut waiting, &mut counts, hold, a);
-    outcome_of(table, waiting, counts, r)
+    let batch = s.batch;
+    let inhibited = s.inhibited;
+    outcome_of(table, waiting, counts, batch, inhibited, r)
 }
 
-// The holder lets the bus go. The last winner stays.
+// The holder lets the bus go. The last winner stays. Under rule 4 the holder is inhibited.
 pub fn release(s: RackState, a: u8) -> Outcome
     ensures { λ r. ⌜ r ≡ releaseOf s a ⌝ }
 {
     let table = s.table;
     let slots = table.slots;
-    let waiting = s.waiting;
-    let counts = s.counts;
+    let mut inhibited = s.inhibited;
     let bus = s.bus;
     let hold = Hold { last: s.last, bus };
-    let r = release_in(well_formed(s), &slots, hold, a);
-    outcome_of(table, waiting, counts, r)
+    let r = release_in(well_formed(s), table.rule, &slots, &mut inhibited, hold, a);
+    let waiting = s.waiting;
+    let counts = s.counts;
+    let batch = s.batch;
+    outcome_of(table, waiting, counts, batch, inhibited, r)
 }
 
-// The waiting cards settle, and the winner holds the bus.
+// The competing cards settle, and the winner holds the bus.
 pub fn arbitrate(s: RackState) -> Outcome
     ensures { λ r. ⌜ r ≡ arbitrateOf s ⌝ }
 {
     let table = s.table;
     let mut waiting = s.waiting;
     let mut counts = s.counts;
+    let mut batch = s.batch;
+    let mut inhibited = s.inhibited;
     let bus = s.bus;
     let hold = Hold { last: s.last, bus };
     let r = arbitrate_in(
@@ -132,9 +144,11 @@ pub fn arbitrate(s: RackState) -> Outcome
         table.rule,
         &mut waiting,
         &mut counts,
+        &mut batch,
+        &mut inhibited,
         hold,
     );
-    outcome_of(table, waiting, counts, r)
+    outcome_of(table, waiting, counts, batch, inhibited, r)
 }
 
 // An event by its letter: Q, A or R. Any other letter is refused with 18.

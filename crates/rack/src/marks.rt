@@ -4,7 +4,7 @@ ghost use mathlib.Core.Bool.{not, _&&_, _||_};
 ghost use mathlib.Core.Path.{_≡_};
 ghost use lib.Dec.{ltb, eqb};
 ghost use Rattle.cards.specs.Below.{allBelow};
-ghost use Rattle.rack.specs.State.{waitsIn, markOk, lastOk, busOk, isClosed, isHolder};
+ghost use Rattle.rack.specs.State.{isIn, markOk, lastOk, busOk, isClosed, isHolder};
 use super::Bus;
 use super::RackState;
 
@@ -18,7 +18,7 @@ pub(crate) fn span(k: u8) -> u16
 
 // Whether the card of that number, one of the 64, waits.
 pub(crate) fn waits_at(waiting: &[bool; 64], a: u8) -> bool
-    ensures { λ r. ⌜ r ≡ (ltb a 64 && waitsIn (now (waiting .entry)) a) ⌝ }
+    ensures { λ r. ⌜ r ≡ (ltb a 64 && isIn (now (waiting .entry)) a) ⌝ }
 {
     if 64 <= a {
         return false;
@@ -54,6 +54,13 @@ pub(crate) fn mark_fits(slot: u8, span: u16, arrival: bool, waits: bool, count: 
     (!waits | (slot != 0)) & ((count as u16) < span) & ((count == 0) | (waits & arrival))
 }
 
+// The sets of a number: only a waiting card under rule 3 is in the batch, and only a card under rule 4 is inhibited.
+pub(crate) fn sets_fit(slot: u8, rule: u8, waits: bool, batched: bool, inhibited: bool) -> bool
+    ensures { λ r. ⌜ r ≡ ((not batched || (waits && eqb rule 3)) && (not inhibited || (not (eqb slot 0) && eqb rule 4))) ⌝ }
+{
+    (!batched | (waits & (rule == 3))) & (!inhibited | ((slot != 0) & (rule == 4)))
+}
+
 // The marks of every number.
 pub(crate) fn marks_ok(s: RackState) -> bool
     requires { ⌜ s .table .k ≤ 6 ⌝ }
@@ -61,10 +68,14 @@ pub(crate) fn marks_ok(s: RackState) -> bool
 {
     let table = s.table;
     let span = span(table.k);
-    let arrival = table.rule == 2;
+    let rule = table.rule;
+    let arrival = rule == 2;
     let mut ok = true;
     for a in 0..64usize {
-        ok = ok & mark_fits(table.slots[a], span, arrival, s.waiting[a], s.counts[a]);
+        let slot = table.slots[a];
+        let waits = s.waiting[a];
+        let fits = mark_fits(slot, span, arrival, waits, s.counts[a]);
+        ok = ok & (fits & sets_fit(slot, rule, waits, s.batch[a], s.inhibited[a]));
     }
     ok
 }

@@ -14,7 +14,11 @@ const WAITING: usize = SLOTS + 64;
 
 const COUNTS: usize = WAITING + 64;
 
-const LAST: usize = COUNTS + 64;
+const BATCH: usize = COUNTS + 64;
+
+const INHIBITED: usize = BATCH + 64;
+
+const LAST: usize = INHIBITED + 64;
 
 const HELD: usize = LAST + 1;
 
@@ -31,7 +35,7 @@ const ANSWER: usize = AFTER + 5;
 
 // The 64 bytes of a record from at on.
 fn numbers_at(bytes: &[u8; RECORD], at: usize) -> [u8; 64]
-    requires { ⌜ at + 64 ≤ 197 ⌝ }
+    requires { ⌜ at + 64 ≤ 325 ⌝ }
 {
     let mut numbers = [0u8; 64];
     for a in 0..64usize {
@@ -42,7 +46,7 @@ fn numbers_at(bytes: &[u8; RECORD], at: usize) -> [u8; 64]
 
 // The same as marks: 0 for no, anything else for yes.
 fn marks_at(bytes: &[u8; RECORD], at: usize) -> [bool; 64]
-    requires { ⌜ at + 64 ≤ 197 ⌝ }
+    requires { ⌜ at + 64 ≤ 325 ⌝ }
 {
     let mut marks = [false; 64];
     for a in 0..64usize {
@@ -64,6 +68,8 @@ pub(crate) fn state_from(bytes: &[u8; RECORD]) -> RackState {
     let slots = numbers_at(bytes, SLOTS);
     let waiting = marks_at(bytes, WAITING);
     let counts = numbers_at(bytes, COUNTS);
+    let batch = marks_at(bytes, BATCH);
+    let inhibited = marks_at(bytes, INHIBITED);
     let bus = bus_from(bytes[HELD], bytes[HOLDER]);
     RackState {
         table: Table {
@@ -73,6 +79,8 @@ pub(crate) fn state_from(bytes: &[u8; RECORD]) -> RackState {
         },
         waiting,
         counts,
+        batch,
+        inhibited,
         last: bytes[LAST],
         bus,
     }
@@ -80,7 +88,7 @@ pub(crate) fn state_from(bytes: &[u8; RECORD]) -> RackState {
 
 // Puts 64 numbers into an answer from at on.
 fn put_numbers(out: &mut [u8; ANSWER], at: usize, numbers: [u8; 64])
-    requires { ⌜ at + 64 ≤ 197 ⌝ }
+    requires { ⌜ at + 64 ≤ 325 ⌝ }
 {
     for a in 0..64usize {
         out[at + a] = numbers[a];
@@ -89,7 +97,7 @@ fn put_numbers(out: &mut [u8; ANSWER], at: usize, numbers: [u8; 64])
 
 // The same for marks: 1 for yes, 0 for no.
 fn put_marks(out: &mut [u8; ANSWER], at: usize, marks: [bool; 64])
-    requires { ⌜ at + 64 ≤ 197 ⌝ }
+    requires { ⌜ at + 64 ≤ 325 ⌝ }
 {
     for a in 0..64usize {
         out[at + a] = marks[a] as u8;
@@ -119,12 +127,16 @@ pub(crate) fn bytes_of(s: RackState) -> [u8; ANSWER] {
     let slots = table.slots;
     let waiting = s.waiting;
     let counts = s.counts;
+    let batch = s.batch;
+    let inhibited = s.inhibited;
     let bus = s.bus;
     out[K] = table.k;
     out[RULE] = table.rule;
     put_numbers(&mut out, SLOTS, slots);
     put_marks(&mut out, WAITING, waiting);
     put_numbers(&mut out, COUNTS, counts);
+    put_marks(&mut out, BATCH, batch);
+    put_marks(&mut out, INHIBITED, inhibited);
     out[LAST] = s.last;
     out[HELD] = is_held(bus);
     out[HOLDER] = holder_of(bus);

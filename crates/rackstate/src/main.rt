@@ -1,29 +1,31 @@
 // Takes states of a rack as bytes, each with an event or a save, and writes what the rack makes of each.
 //
-// A record in has 199 bytes. Its first 197 are a state:
+// A record in has 327 bytes. Its first 325 are a state:
 //   0    number width k
 //   1    rule
 //   2    the slot of each number, 64 bytes
 //   66   whether each number waits, 64 bytes: 0 for no, anything else for yes
 //   130  the waiting count of each number, 64 bytes
-//   194  last winner
-//   195  whether the bus is held: 0 for no, anything else for yes
-//   196  the holder
+//   194  whether each number is in the batch, 64 bytes, as for waiting
+//   258  whether each number is inhibited, 64 bytes, as for waiting
+//   322  last winner
+//   323  whether the bus is held: 0 for no, anything else for yes
+//   324  the holder
 // Then what to do with it:
-//   197  the letter: Q, A or R for an event, S for a save; any other letter is an event too, and is refused with 18
-//   198  the number of the event, or how many bytes are lent to the save; each of them holds EE before (in hex)
+//   325  the letter: Q, A or R for an event, S for a save; any other letter is an event too, and is refused with 18
+//   326  the number of the event, or how many bytes are lent to the save; each of them holds EE before (in hex)
 //
-// A record out has 202 bytes, and after a save those that were lent. Its first 197 are the state that the event returns, or the state that was
+// A record out has 330 bytes, and after a save those that were lent. Its first 325 are the state that the event returns, or the state that was
 // saved, laid out as above: yes is 1, and the holder of a free bus is 0. Then, for an event:
-//   197  answer
-//   198  winner
-//   199  settled lines, low byte first, 2 bytes
-//   201  stages
+//   325  answer
+//   326  winner
+//   327  settled lines, low byte first, 2 bytes
+//   329  stages
 // and for a save:
-//   197  answer
-//   198  length, low byte first, 2 bytes
-//   200  zeros, 2 bytes
-//   202  the bytes that were lent, as the save left them
+//   325  answer
+//   326  length, low byte first, 2 bytes
+//   328  zeros, 2 bytes
+//   330  the bytes that were lent, as the save left them
 //
 // Each record is answered before the next is read. The program ends where the input ends or a record is short.
 use layout::AFTER;

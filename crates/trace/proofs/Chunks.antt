@@ -39,12 +39,18 @@ line-back s xs ys n k h =
       byte-back xs ys (5 * (n + k) + 4) (5 * k + 4) (omega arith),
     )
 
+-- a line more after equal lines
+same-turn : (l k : Listing) (f g : RackState → Listed) → l ≡ k → f (k .state) ≡ g (k .state)
+    → cond (l .ended) l (withLine l (f (l .state))) ≡ cond (k .ended) k (withLine k (g (k .state)))
+same-turn l k f g same line = rw (same, line)
+
 -- lines of the front alone
 front-alone : (s : RackState) (xs ys : List ℕ) (n : ℕ) → 5 * n ≤ length xs → listing s (xs ++ ys) n ≡ listing s xs n
 unfolding listing
 front-alone s xs ys zero h = refl
 front-alone s xs ys (suc n) h =
-    rw (front-alone s xs ys n (omega arith), line-front (listing s xs n .state) xs ys n (omega arith))
+    same-turn (listing s (xs ++ ys) n) (listing s xs n) (λ t. lineAt t (xs ++ ys) n) (λ t. lineAt t xs n)
+    (front-alone s xs ys n (omega arith)) (line-front (listing s xs n .state) xs ys n (omega arith))
 
 line-more : (l k : Listing) (line : Listed) → withLine (followedBy l k) line ≡ followedBy l (withLine k line)
 line-more l k line = rw (append-assoc (l .text) (k .text) (line .text), add-assoc (l .lines) (k .lines) 1)

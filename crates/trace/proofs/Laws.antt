@@ -15,7 +15,7 @@ use Rattle.rack.proofs.Kept.{same-form}
 use Rattle.rack.proofs.Leaving.{table-kept, arbitrated-table, state-again}
 use Rattle.rack.proofs.Tests.{and-left, and-right}
 use Rattle.rack.specs.Arbitrate.{eventOf}
-use Rattle.rack.specs.Lent.{stateOf, Leaves}
+use Rattle.rack.specs.Lent.{Marks, stateOf, Leaves}
 use Rattle.rack.specs.State.{wellFormed}
 use Rattle.rack.specs.declared.Hold.{Hold}
 use Rattle.rack.specs.declared.RackState.{RackState}
@@ -169,24 +169,23 @@ all-gone s trace buffer n whole state now e g read written er ew =
 
 -- ---- a line answered on lent marks
 
-module _ (table : Table) (waiting : List Bool) (counts : List ℕ) (hold : Hold) (trace : List ℕ) (n : ℕ) (line : Line) (is : line ≡ lineIn trace n)
-    (r : Reply) (waiting′ : List Bool) (counts′ : List ℕ)
-    (left : Leaves (lineOutcome (stateOf table waiting counts hold) line) r waiting′ counts′) where
+module _ (table : Table) (m : Marks) (hold : Hold) (trace : List ℕ) (n : ℕ) (line : Line) (is : line ≡ lineIn trace n)
+    (r : Reply) (m′ : Marks) (left : Leaves (lineOutcome (stateOf table m hold) line) r m′) where
   abbrev here : RackState
-  here = stateOf table waiting counts hold
+  here = stateOf table m hold
 
   abbrev pub there : RackState
-  there = stateOf table waiting′ counts′ (r .hold)
+  there = stateOf table m′ (r .hold)
 
   abbrev pub told : List ℕ
   told = textIn trace n line (r .answer) (r .winner) (r .lines) (r .stages)
 
   as-listed : lineAt here trace n ≡ record { state = there; text = told; ended = isMalformed line }
   unfolding lineAt
-  as-listed = rw (← is, ← state-again (lineOutcome here line) table r waiting′ counts′ (same-table here line) left, left .reply)
+  as-listed = rw (← is, ← state-again (lineOutcome here line) table r m′ (same-table here line) left, left .reply)
 
   pub formed-still : wellFormed there ≡ wellFormed here
-  formed-still = rw (state-again (lineOutcome here line) table r waiting′ counts′ (same-table here line) left) (line-keeps here line)
+  formed-still = rw (state-again (lineOutcome here line) table r m′ (same-table here line) left) (line-keeps here line)
 
   module _ (s : RackState) (buffer now : List ℕ) (g : Going s trace buffer n here now) where
     abbrev pub after : List ℕ

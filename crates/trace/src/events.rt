@@ -1,6 +1,6 @@
 // A line of the trace, answered.
 ghost use mathlib.Core.Path.{_≡_};
-ghost use Rattle.rack.specs.Lent.{stateOf, tableOf, quietReply, Leaves};
+ghost use Rattle.rack.specs.Lent.{marks, stateOf, tableOf, quietReply, Leaves};
 ghost use Rattle.rack.specs.State.{wellFormed};
 ghost use Rattle.trace.specs.Line.{lineOutcome};
 use super::Line;
@@ -31,17 +31,20 @@ pub(crate) fn answer_line(
     slots: &[u8; 64],
     waiting: &mut [bool; 64],
     counts: &mut [u8; 64],
+    batch: &mut [bool; 64],
+    inhibited: &mut [bool; 64],
     hold: Hold,
     line: Line,
 ) -> Reply
-    requires { ⌜ formed ≡ wellFormed (stateOf (tableOf k rule (now slots)) (now waiting) (now counts) hold) ⌝ }
-    ensures { λ r. ⌜ Leaves (lineOutcome (stateOf (tableOf k rule (now (slots .entry))) (now (waiting .entry)) (now (counts .entry)) hold) line)
-        r (now (waiting .exit)) (now (counts .exit)) ⌝ }
+    requires { ⌜ formed ≡ wellFormed (stateOf (tableOf k rule (now slots)) (marks (now waiting) (now counts) (now batch) (now inhibited)) hold) ⌝ }
+    ensures { λ r. ⌜ Leaves (lineOutcome (stateOf (tableOf k rule (now (slots .entry)))
+        (marks (now (waiting .entry)) (now (counts .entry)) (now (batch .entry)) (now (inhibited .entry))) hold) line)
+        r (marks (now (waiting .exit)) (now (counts .exit)) (now (batch .exit)) (now (inhibited .exit))) ⌝ }
 {
     match line {
         Line::Request(n) => request_in(formed, slots, waiting, counts, hold, n),
-        Line::Arbitrate => arbitrate_in(formed, k, rule, waiting, counts, hold),
-        Line::Release(n) => release_in(formed, slots, hold, n),
+        Line::Arbitrate => arbitrate_in(formed, k, rule, waiting, counts, batch, inhibited, hold),
+        Line::Release(n) => release_in(formed, rule, slots, inhibited, hold, n),
         Line::Malformed => malformed(hold),
     }
 }

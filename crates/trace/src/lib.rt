@@ -1,13 +1,12 @@
 // The trace listing: lines of a trace in, lines of the listing out.
 ghost use Prim.Native.Nat.{_+_, _*_, min};
 ghost use mathlib.Core.Path.{_≡_};
-ghost use Rattle.rack.specs.Lent.{stateOf};
 ghost use Rattle.trace.specs.Line.{lineOf, textOf};
 ghost use Rattle.trace.specs.Listing.{Lists};
-use cards::Table;
 use events::answer_line;
 use rack::Hold;
 use rack::RackState;
+use rack::lent::state_of;
 use reading::is_malformed;
 use reading::is_shaped;
 use reading::line_at;
@@ -76,17 +75,15 @@ fn least(x: usize, y: usize) -> usize
     y
 }
 
-// The state of these parts.
-fn state_of(table: Table, waiting: [bool; 64], counts: [u8; 64], hold: Hold) -> RackState
-    ensures { λ r. ⌜ r ≡ stateOf table waiting counts hold ⌝ }
+// What a run leaves.
+fn left_by(state: RackState, read: usize, written: usize, ended: bool) -> Ran
+    ensures { λ r. ⌜ r ≡ record { state = state; read = read; written = written; ended = ended } ⌝ }
 {
-    let bus = hold.bus;
-    RackState {
-        table,
-        waiting,
-        counts,
-        last: hold.last,
-        bus,
+    Ran {
+        state,
+        read,
+        written,
+        ended,
     }
 }
 
@@ -102,6 +99,8 @@ pub fn run(s: RackState, input: &[u8], output: &mut [u8]) -> Ran
     let slots = table.slots;
     let mut waiting = s.waiting;
     let mut counts = s.counts;
+    let mut batch = s.batch;
+    let mut inhibited = s.inhibited;
     let bus = s.bus;
     let mut hold = Hold { last: s.last, bus };
     for n in 0..lines {
@@ -113,6 +112,8 @@ pub fn run(s: RackState, input: &[u8], output: &mut [u8]) -> Ran
             &slots,
             &mut waiting,
             &mut counts,
+            &mut batch,
+            &mut inhibited,
             hold,
             line,
         );
@@ -120,18 +121,10 @@ pub fn run(s: RackState, input: &[u8], output: &mut [u8]) -> Ran
         let next = r.hold;
         hold = next;
         if is_malformed(line) {
-            return Ran {
-                state: state_of(table, waiting, counts, hold),
-                read: 5 * n + 5,
-                written: 19 * n + 19,
-                ended: true,
-            };
+            let state = state_of(table, waiting, counts, batch, inhibited, hold);
+            return left_by(state, 5 * n + 5, 19 * n + 19, true);
         }
     }
-    Ran {
-        state: state_of(table, waiting, counts, hold),
-        read: 5 * lines,
-        written: 19 * lines,
-        ended: false,
-    }
+    let state = state_of(table, waiting, counts, batch, inhibited, hold);
+    left_by(state, 5 * lines, 19 * lines, false)
 }

@@ -17,10 +17,10 @@ outcome-of-requires c κs = search needs
 
 returns : tie.Need-returns
 returns c =
-    let asked = c .before .before .before .before in
-    let s = asked .before .before .before .before .args .s in
+    let asked = c .before .before .before .before .before .before in
+    let s = asked .before .before .before .before .before .before .args .s in
     c .outcome-of .ensures
-    ∙ outcome-again _ (s .table) _ _ _ (table-kept _ s _ (arbitrated-table s))
+    ∙ outcome-again _ (s .table) _ _ (table-kept _ s _ (arbitrated-table s))
     (rw (told-truth s) at (rw (asked .well-formed .ensures) at (c .before .arbitrate-in .ensures .left (s .table .slots))))
 
 pub arbitrate-spec : {M : Type 1} → statement M

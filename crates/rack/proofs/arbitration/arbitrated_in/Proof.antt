@@ -1,61 +1,74 @@
--- `rack::arbitration::arbitrated_in` meets its contract: by what the settling answers. Assumes nothing.
-use Prim.Native.Nat.{_%_, _<_}
+-- `rack::arbitration::arbitrated_in` meets its contract: by what the settling of the competing cards answers. Assumes nothing.
+use Prim.Native.Nat.{ℕ, _%_, _<_}
 use native.Mathlib.Nat.{mod-lt}
 use native.Mathlib.Omega.{arith}
+use mathlib.Core.Bool.{not}
+use mathlib.Core.List.{List}
+use mathlib.Core.Path.{_≡_, refl, ap, _∙_}
 use borrow.Author.Needs.{needs}
+use Rattle.cards.specs.declared.Table.{Table}
+use Rattle.rack.proofs.Laws.{shown-settles}
 use Rattle.rack.proofs.Leaving.{leaves-unsettled, leaves-settled}
 use Rattle.rack.proofs.arbitration.arbitrated_in.Statement.{statement}
 use Rattle.rack.proofs.arbitration.arbitrated_in.Tie as tie
-use Rattle.rack.specs.Lent.{tableOf}
+use Rattle.rack.specs.Arbitrate.{somePreferred, settlingOf}
+use Rattle.rack.specs.Lent.{Marks, marks, stateOf, tableOf}
+use Rattle.rack.specs.declared.RackState.{RackState}
 
-settling-of-requires : tie.Need-settling-of-requires
-settling-of-requires c κs = search needs
+-- the state, whatever the slots are, and its settling
+module _ (c : tie.After-settling-of) (slots : List ℕ) where
+  abbrev told : tie.After-some-first
+  told = c .before .before .before .before .before
 
-quiet-requires : tie.Need-quiet-requires
-quiet-requires c κs = search needs
+  abbrev given : tie.Start
+  given = told .before .before .before .before
+
+  abbrev table : Table
+  table = tableOf (given .args .k) (given .args .rule) slots
+
+  abbrev lent : Marks
+  lent = marks (given .args .waiting .now) (given .args .counts .now) (given .args .batch .now) (given .args .inhibited .now)
+
+  abbrev state : RackState
+  state = stateOf table lent (given .args .hold)
+
+  anew : not (told .some-first .result) ≡ not (somePreferred state)
+  unfolding somePreferred
+  anew = ap not (told .some-first .ensures)
+
+  settled : c .settling-of .result ≡ settlingOf state
+  settled = c .settling-of .ensures ∙ shown-settles state _ anew
 
 returns : tie.Need-returns
 returns c slots =
-    let settled = c .before .before .before in
-    let given = settled .before .before .before .args in
+    let before = c .before .before .before in
     rw (c .quiet .ensures)
-    (leaves-unsettled (tableOf (given .k) (given .rule) slots) _ _ (given .hold) (settled .settling-of .result)
-    (settled .settling-of .ensures slots (given .hold .bus)) (c .before .if1 .taken))
-
-span-requires : tie.Need-span-requires
-span-requires c κs = search needs
-
-rem-w : tie.Need-rem-w
-rem-w c = search needs
+    (leaves-unsettled (table before slots) (lent before slots) _ (before .settling-of .result) (settled before slots) (c .before .if1 .taken))
 
 -- the winner is below the span
 small : (c : tie.After-span) → c .before .before .before .settling-of .result .lines % c .span .result < 64
 small c = omega (arith, mod-lt (c .before .before .before .settling-of .result .lines) (c .span .ensures .1 .0), c .span .ensures .1 .1)
 
-cast-w : tie.Need-cast-w
-cast-w c = omega (arith, small (c .before))
-
 granted-in-requires : tie.Need-granted-in-requires
-granted-in-requires c κs = (small (c .before .before .before), search needs)
+granted-in-requires c κs = (small (c .before .before .before .before .before), search needs)
 
 returns-2 : tie.Need-returns-2
 returns-2 c slots =
-    let spanned = c .before .before .before .before in
-    let settled = spanned .before .before .before in
-    let given = settled .before .before .before .args in
-    leaves-settled (tableOf (given .k) (given .rule) slots) _ _ (given .hold) (settled .settling-of .result)
-    (settled .settling-of .ensures slots (given .hold .bus)) (spanned .before .if1 .left)
-    (rw (spanned .span .ensures .0) at (c .granted-in .ensures slots))
+    let spanned = c .before .before .before .before .before .before in
+    let before = spanned .before .before .before in
+    leaves-settled (table before slots) (lent before slots) _ (before .settling-of .result) (settled before slots) (spanned .before .if1 .left)
+    (rw (spanned .span .ensures .0) at (c .granted-in .ensures slots (state before slots) refl (anew before slots)))
 
 pub arbitrated-in-spec : {M : Type 1} → statement M
 arbitrated-in-spec =
     tie.close
     (tie.spec
-    settling-of-requires
-    quiet-requires
+    (λ c κs. search needs)
+    (λ c κs. search needs)
+    (λ c κs. search needs)
     returns
-    span-requires
-    rem-w
-    cast-w
+    (λ c κs. search needs)
+    (λ c. search needs)
+    (λ c. omega (arith, small (c .before)))
     granted-in-requires
     returns-2)

