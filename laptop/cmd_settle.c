@@ -1,7 +1,8 @@
-/* racklap settle: the lines after each stage, and who withdraws what. */
+/* racklap settle: the lines after each stage, how many there can be, and who withdraws what. */
 #include <limits.h>
 #include <stdio.h>
 
+#include "bounds.h"
 #include "commands.h"
 #include "say.h"
 #include "settling.h"
@@ -71,6 +72,7 @@ int settle_command(struct words words)
     uint32_t m = number_word(words.word[0], UINT32_MAX);
     struct settling settling = settle(m, (size_t)words.count - 1, words.word + 1);
     print_stages(&settling);
+    print_bounds(&settling);
     print_changes(&settling);
     finish_output();
     if (vcd != NULL) {

@@ -48,6 +48,16 @@ unsigned competitor(const struct settling *settling, size_t index)
     return entry_at(settling->numbers, index);
 }
 
+unsigned greatest_competitor(const struct settling *settling)
+{
+    unsigned greatest = 0;
+    for (size_t i = 0; i < settling->count; i++) {
+        unsigned number = competitor(settling, i);
+        greatest = number > greatest ? number : greatest;
+    }
+    return greatest;
+}
+
 unsigned lines_after(const struct settling *settling, uint32_t stage)
 {
     return entry_at(settling->stages, stage);

@@ -23,6 +23,9 @@ struct settling settle(uint32_t m, size_t count, char **numbers);
 /* The number of the competitor with this index, 0 to count - 1. */
 unsigned competitor(const struct settling *settling, size_t index);
 
+/* The greatest of the competing numbers, 0 if there are none. */
+unsigned greatest_competitor(const struct settling *settling);
+
 /* The lines after a stage, 0 to t. */
 unsigned lines_after(const struct settling *settling, uint32_t stage);
 

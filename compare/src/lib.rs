@@ -1,9 +1,10 @@
 //! An independent reading of the rack's rules, and the means to hold the product against it.
 //!
-//! The reference is `settling`, `rules`, `table`, `rack`, `listing`, `waiting`, `seen_from_c` and `seen_as_bytes`.
+//! The reference is `settling`, `intervals`, `rules`, `table`, `rack`, `listing`, `waiting`, `seen_from_c` and `seen_as_bytes`.
 //! The product is reached through `entries`, `racktrace` and `rackstate` alone.
 
 pub mod entries;
+pub mod intervals;
 pub mod judge;
 pub mod listing;
 pub mod rack;
@@ -16,5 +17,6 @@ pub mod running;
 pub mod seen_as_bytes;
 pub mod seen_from_c;
 pub mod settling;
+pub mod slowest;
 pub mod table;
 pub mod waiting;

@@ -51,6 +51,10 @@ impl Session {
         (Session { rack, ended }, printed)
     }
 
+    pub fn rack(&self) -> &Rack {
+        &self.rack
+    }
+
     pub fn has_ended(&self) -> bool {
         self.ended
     }

@@ -1,7 +1,8 @@
 /* Reads what racklap settle printed and judges it line by line: withdrawals M n1 n2 .. < output.
  *
- * The stages are taken as printed. Who withdraws is worked out anew from the sentence of the scope:
- * a competitor applies 0 to line j if some line above j carries 1 where its own bit is 0. */
+ * The stages are taken as printed. The bounds are worked out anew from the binary digits of the
+ * greatest number. Who withdraws is worked out anew from the sentence of the scope: a competitor
+ * applies 0 to line j if some line above j carries 1 where its own bit is 0. */
 #include <stdbool.h>
 #include <stdio.h>
 #include <stdlib.h>
@@ -47,6 +48,63 @@ static void read_stages(void)
     expect(row);
 }
 
+/* Writes the digits of a number without leading zeros, with a blank between two runs: how many runs
+ * there are. */
+static unsigned write_runs(char *runs, unsigned number)
+{
+    unsigned count = 0;
+    char last = '0';
+    for (unsigned j = m; j-- > 0;) {
+        char digit = (number >> j & 1) == 1 ? '1' : '0';
+        if (digit != last && count++ > 0) {
+            *runs++ = ' ';
+        }
+        last = digit;
+        if (count > 0) {
+            *runs++ = digit;
+        }
+    }
+    *runs = '\0';
+    return count;
+}
+
+static void remove_blanks(char *to, const char *from)
+{
+    for (; *from != '\0'; from++) {
+        if (*from != ' ') {
+            *to++ = *from;
+        }
+    }
+    *to = '\0';
+}
+
+static const char *plural(unsigned count)
+{
+    return count == 1 ? "" : "s";
+}
+
+static void expect_bounds(unsigned greatest)
+{
+    char runs[32], digits[32], binary[64] = "", shown[64] = "", row[256];
+    unsigned count = write_runs(runs, greatest);
+    remove_blanks(digits, runs);
+    if (count > 0) {
+        sprintf(binary, " = %s", digits);
+    }
+    if (count > 1) {
+        sprintf(shown, " (%s)", runs);
+    }
+    sprintf(row, "at most %u stage%s with greatest number %u%s: %u run%s%s\n", count, plural(count),
+            greatest, binary, count, plural(count), shown);
+    expect(row);
+    sprintf(row, "at most %u stage%s on %u line%s\n", m, plural(m), m, plural(m));
+    expect(row);
+    if (t > count || t > m) {
+        fprintf(stderr, "withdrawals: t = %u is over its bound\n", t);
+        exit(1);
+    }
+}
+
 /* Expects "stage S: N VERB line(s) a, b AFTER" if any of the lines is in the set. */
 static void expect_lines(unsigned stage, unsigned own, const char *verb, const bool set[12],
                          const char *after)
@@ -78,6 +136,16 @@ static void expect_competitor(unsigned stage, unsigned own)
     expect_lines(stage, own, "applies", again, " again");
 }
 
+static unsigned greatest_of(int count, char **numbers)
+{
+    unsigned greatest = 0;
+    for (int i = 0; i < count; i++) {
+        unsigned number = (unsigned)atoi(numbers[i]);
+        greatest = number > greatest ? number : greatest;
+    }
+    return greatest;
+}
+
 int main(int argc, char **argv)
 {
     if (argc < 2) {
@@ -86,6 +154,9 @@ int main(int argc, char **argv)
     }
     m = (unsigned)atoi(argv[1]);
     read_stages();
+    if (argc > 2) {
+        expect_bounds(greatest_of(argc - 2, argv + 2));
+    }
     for (unsigned stage = 1; stage <= t; stage++) {
         for (int i = 2; i < argc; i++) {
             expect_competitor(stage, (unsigned)atoi(argv[i]));

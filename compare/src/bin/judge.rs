@@ -2,7 +2,7 @@
 
 use compare::judge::kind::Kind;
 use compare::judge::met::Met;
-use compare::judge::{groups, Sizes};
+use compare::judge::{bounds, groups, Sizes};
 use compare::report::Report;
 use std::process::ExitCode;
 
@@ -56,7 +56,7 @@ fn repeat_case(kinds: &[Kind], name: &str, seed: u64) -> Result<Report, String> 
     let kind = kinds.iter().find(|kind| kind.name == name);
     let kind = kind.ok_or(format!("{name} is no kind"))?;
     let mut report = Report::new();
-    let outcome = kind.run_case(seed, &mut Met::default());
+    let outcome = kind.run_case(seed, &mut Met::nothing(bounds()));
     report.test(name, outcome, &kind.command(seed));
     Ok(report)
 }
@@ -75,9 +75,9 @@ fn judge_all_met(met: &Met, seed: u64, report: &mut Report) {
         println!("number {number:2} met {times} times");
         judge_met(&format!("number-{number}-is-met"), times, seed, report);
     }
-    for (kind, times) in met.bounds_reached() {
-        println!("{kind} reached its bound {times} times");
-        judge_met(&format!("{kind}-is-reached"), times, seed, report);
+    for (bound, times) in met.bounds_reached() {
+        println!("{bound} reached its bound {times} times");
+        judge_met(&format!("{bound}-is-reached"), times, seed, report);
     }
 }
 
@@ -89,7 +89,7 @@ fn run(options: Options) -> Result<Report, String> {
     }
     println!("seed {}", options.seed);
     let mut report = Report::new();
-    let mut met = Met::default();
+    let mut met = Met::nothing(bounds());
     for group in &groups {
         group.run(options.seed, &mut met, &mut report);
     }

@@ -2,6 +2,7 @@
 
 use super::met::Met;
 use super::traces::{meet_all, same};
+use super::waiting_counts;
 use crate::listing::{self, TRACE_LINE};
 use crate::racktrace;
 
@@ -29,7 +30,7 @@ impl Conversation<'_> {
             return Ok(());
         }
         same(&self.product.answer()?, wanted)?;
-        meet_all(wanted, self.met);
+        meet_all(wanted, self.met)?;
         if self.reference.has_ended() {
             self.product.ends_by_itself()?;
         }
@@ -68,5 +69,6 @@ pub fn converse(
             answered += TRACE_LINE;
         }
     }
-    conversation.finish(&trace[answered..])
+    conversation.finish(&trace[answered..])?;
+    waiting_counts::hold(file, trace, met)
 }

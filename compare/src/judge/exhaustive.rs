@@ -4,23 +4,25 @@ use super::guarded::agreed;
 use super::kind::Kind;
 use super::met::Met;
 use super::named_tables::WORKED_TABLE;
+use super::stage_bounds;
 use super::traces::hold;
 use crate::entries;
 use crate::seen_from_c;
 
 fn every_set_of_numbers(m: u32) -> Kind {
-    Kind::new(format!("every-set-of-numbers-m-{m}"), 1, move |rng, _| {
+    Kind::new(format!("every-set-of-numbers-m-{m}"), 1, move |rng, met| {
         let numbers = 1u32 << m;
         for set in 0..1u64 << numbers {
             let chosen: Vec<u16> = (0..numbers as u16).filter(|i| set >> i & 1 == 1).collect();
             let competing = seen_from_c::bytes(&chosen);
-            agreed(
+            let (t, _) = agreed(
                 2 * (m as usize + 1),
                 rng,
                 |buffer| entries::settle(m, &competing, buffer),
                 |buffer| seen_from_c::settle(m, &competing, buffer),
             )
             .map_err(|what| format!("numbers {chosen:?}: {what}"))?;
+            stage_bounds::hold(m, &chosen, t, met)?;
         }
         Ok(())
     })

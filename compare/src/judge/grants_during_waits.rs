@@ -37,9 +37,13 @@ fn most_grants_during_a_wait(listing: &[u8], table: &Table) -> Result<usize, Str
     Ok(most_of_each.max().unwrap_or(0))
 }
 
+fn name(who: &str, rule: u8) -> String {
+    format!("{who}grants-during-a-wait-rule-{rule}")
+}
+
 /// A bound that no case reaches would be a bound that is too mild, so the reaching is counted.
 fn bounded(rule: u8, bound: usize, who: &str, list: List) -> Kind {
-    let name = format!("{who}grants-during-a-wait-rule-{rule}");
+    let name = name(who, rule);
     Kind::new(name.clone(), 1, move |rng, met| {
         let file = table_file(rule, rng);
         let trace = crowded(&file, rng.between(100, 400) as usize, rng);
@@ -55,6 +59,11 @@ fn bounded(rule: u8, bound: usize, who: &str, list: List) -> Kind {
         met.stay_within_bound(&name, most == bound);
         Ok(())
     })
+}
+
+pub fn bounds() -> Vec<String> {
+    let both = |(rule, _)| LISTED_BY.map(|(who, _)| name(who, rule));
+    BOUNDS.into_iter().flat_map(both).collect()
 }
 
 pub fn kinds() -> Vec<Kind> {

@@ -16,12 +16,14 @@ pub mod named_tables;
 pub mod named_traces;
 pub mod settlings;
 pub mod small_racks;
+pub mod stage_bounds;
 pub mod state_faults;
 pub mod state_maker;
 pub mod states;
 pub mod tables;
 pub mod trace_maker;
 pub mod traces;
+pub mod waiting_counts;
 pub mod well_formed;
 
 use crate::rackstate::Shared;
@@ -44,6 +46,16 @@ impl Sizes {
             states: self.states * times,
         }
     }
+}
+
+/// What the cases must not only stay within but also reach.
+pub fn bounds() -> Vec<String> {
+    [
+        stage_bounds::bounds(),
+        waiting_counts::bounds(),
+        grants_during_waits::bounds(),
+    ]
+    .concat()
 }
 
 pub fn groups(sizes: &Sizes) -> Vec<Group> {

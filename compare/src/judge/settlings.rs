@@ -3,9 +3,13 @@
 use super::guarded::agreed;
 use super::kind::{dashed, Kind};
 use super::met::Met;
+use super::stage_bounds;
 use crate::entries;
+use crate::intervals::interval_number;
 use crate::rng::Rng;
 use crate::seen_from_c;
+use crate::settling::MOST_LINES;
+use crate::slowest;
 
 struct Case {
     m: u32,
@@ -63,9 +67,8 @@ fn repeated(rng: &mut Rng) -> Case {
 /// Each makes the greatest number wait for a stage; as many as m stages come about.
 fn deep(rng: &mut Rng) -> Case {
     let mut case = sound(rng);
-    let alternating = 0b1010_1010_1010 >> (12 - case.m);
     let any = number(case.m, rng) | 1 << (case.m - 1);
-    let greatest = *rng.pick(&[alternating, any]);
+    let greatest = *rng.pick(&[slowest::alternating(case.m), any]);
     let ones: Vec<u32> = (0..case.m).filter(|j| greatest >> j & 1 == 1).collect();
     let parting_at = |one: u32| (greatest >> one << one) - 1;
     case.numbers = (0..rng.between(1, 14))
@@ -73,6 +76,44 @@ fn deep(rng: &mut Rng) -> Case {
         .collect();
     case.numbers.push(greatest);
     case
+}
+
+/// The greatest number with all its rivals, and some others below it, which change nothing: there
+/// are exactly as many stages as the greatest number has intervals.
+fn slowest_below(greatest: u16, case: &mut Case, rng: &mut Rng) {
+    case.numbers = slowest::rivals(greatest);
+    for _ in 0..rng.between(0, 8) {
+        case.numbers
+            .push(rng.between(0, u64::from(greatest)) as u16);
+    }
+    case.numbers.push(greatest);
+    rng.shuffle(&mut case.numbers);
+}
+
+fn reaching(case: &Case, stages: u32, rng: &mut Rng, met: &mut Met) -> Result<(), String> {
+    let (m, numbers) = (case.m, &case.numbers);
+    match hold(case, rng, met)? {
+        t if t == stages => Ok(()),
+        t => Err(format!("m {m}, numbers {numbers:?}: {t}, not {stages}")),
+    }
+}
+
+fn reaching_the_intervals(rng: &mut Rng, met: &mut Met) -> Result<(), String> {
+    let mut case = sound(rng);
+    let greatest = number(case.m, rng);
+    slowest_below(greatest, &mut case, rng);
+    reaching(&case, interval_number(greatest), rng, met)
+}
+
+/// Both bounds at once, as P1 has it on 4 lines.
+fn reaching_the_lines(m: u32) -> Kind {
+    Kind::new(format!("settling-reaching-m-{m}"), 2, move |rng, met| {
+        let mut case = sound(rng);
+        case.m = m;
+        case.buffer = 2 * (m as usize + 1);
+        slowest_below(slowest::alternating(m), &mut case, rng);
+        reaching(&case, m, rng, met)
+    })
 }
 
 /// Anything at all, near the edges.
@@ -139,6 +180,9 @@ fn hold(case: &Case, rng: &mut Rng, met: &mut Met) -> Result<u32, String> {
     )
     .map_err(|what| format!("m {}, numbers {:?}: {what}", case.m, case.numbers))?;
     met.meet(answer.saturating_sub(100));
+    if answer < 100 {
+        stage_bounds::hold(case.m, &case.numbers, answer, met)?;
+    }
     Ok(answer)
 }
 
@@ -184,11 +228,13 @@ pub fn kinds() -> Vec<Kind> {
         Kind::new("settling-sound", 60, accepted(sound)),
         Kind::new("settling-repeated", 20, accepted(repeated)),
         Kind::new("settling-deep", 20, accepted(deep)),
+        Kind::new("settling-reaching-intervals", 20, reaching_the_intervals),
         Kind::new("settling-noisy", 40, |rng, met| {
             let case = noisy(rng);
             hold(&case, rng, met).map(|_| ())
         }),
     ];
+    kinds.extend((1..=MOST_LINES).map(reaching_the_lines));
     for faults in choices(&[21, 22, 23, 24]) {
         let name = format!("settling-refused-{}", dashed(&faults));
         kinds.push(Kind::new(name, 5, refused(faults)));

@@ -10,21 +10,26 @@ use super::met::Met;
 use super::trace_maker::{
     asks_again, blind, full_table_file, mixed, renewing, saturated, table_file,
 };
+use super::waiting_counts;
 use crate::listing::{self, LISTING_LINE, TRACE_LINE};
 use crate::racktrace;
 use crate::rng::Rng;
 use crate::rules::GREATEST_RULE;
 use crate::table::LONGEST_FILE;
 
+/// No loser's count is full in a run from a fresh state.
+const NEVER_LISTED: u32 = 16;
+
 /// One run of the program against the reference's listing.
 pub fn hold(file: Option<&[u8]>, trace: &[u8], met: &mut Met) -> Result<(), String> {
     let printed = racktrace::run(file, trace)?;
-    same(&printed, &listing::listing(file, trace)).map_err(|what| {
-        let (file, trace) = (shown(file.unwrap_or(&[])), shown(trace));
-        format!("{what}; table of {file}; trace of {trace}")
-    })?;
-    meet_all(&printed, met);
-    Ok(())
+    same(&printed, &listing::listing(file, trace))
+        .and_then(|()| meet_all(&printed, met))
+        .and_then(|()| waiting_counts::hold(file.unwrap_or(&[]), trace, met))
+        .map_err(|what| {
+            let (file, trace) = (shown(file.unwrap_or(&[])), shown(trace));
+            format!("{what}; table of {file}; trace of {trace}")
+        })
 }
 
 pub fn same(printed: &[u8], expected: &[u8]) -> Result<(), String> {
@@ -50,11 +55,17 @@ fn shown_line(line: Option<&[u8]>) -> String {
     }
 }
 
-/// Counts the answers of a listing that was found right.
-pub fn meet_all(printed: &[u8], met: &mut Met) {
+/// Counts the answers of a listing that agrees with the reference's.
+pub fn meet_all(printed: &[u8], met: &mut Met) -> Result<(), String> {
     for line in printed.chunks(LISTING_LINE) {
-        met.meet(u32::from(line[5] - b'0') * 10 + u32::from(line[6] - b'0'));
+        let answer = u32::from(line[5] - b'0') * 10 + u32::from(line[6] - b'0');
+        if answer == NEVER_LISTED {
+            let line = shown_line(Some(line));
+            return Err(format!("{line} answers {NEVER_LISTED}"));
+        }
+        met.meet(answer);
     }
+    Ok(())
 }
 
 type MakeTrace = fn(&[u8], usize, &mut Rng) -> Vec<u8>;

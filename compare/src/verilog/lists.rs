@@ -2,6 +2,7 @@
 
 use compare::rng::Rng;
 use compare::settling::MOST_COMPETITORS;
+use compare::slowest;
 
 /// The lists where a slip would show first: nobody, the number 0, repeats, maxima, a full rack,
 /// the longest settling.
@@ -19,20 +20,8 @@ pub fn extreme_lists(m: u32) -> Vec<Vec<u16>> {
         vec![0; MOST_COMPETITORS],
         full_rack.map(|card| card.min(greatest)).collect(),
         (0..m).map(|j| 1 << j).collect(),
-        slowest_list(m),
+        slowest::list(m),
     ]
-}
-
-/// A list that takes m stages. The winner is 1010...; each rival copies it down to one of its
-/// ones, has 01 there in place of 10, and so shows up again when the ones above have settled.
-fn slowest_list(m: u32) -> Vec<u16> {
-    let ones: Vec<u32> = (0..m).rev().step_by(2).collect();
-    let winner: u16 = ones.iter().map(|one| 1 << one).sum();
-    let rivals = ones.iter().map(|one| {
-        let copied = winner >> (one + 1) << (one + 1);
-        copied | (1 << one) >> 1
-    });
-    rivals.chain([winner]).collect()
 }
 
 /// Few cards settle longest and many cards fill the rack, so every size gets its share. Numbers

@@ -9,5 +9,7 @@ pub mod Refusal
 pub mod Known
 pub mod Promises
 pub mod Reading
+pub mod Runs
+pub mod Intervals
 pub mod Silent
 pub mod Smear

@@ -2,6 +2,7 @@
 -- that demand 3 is not vacuous. Assumes nothing.
 use Prim.Native.Nat.{ℕ, _-_, _*_}
 use native.Mathlib.Omega.{arith}
+use mathlib.Core.Bool.{true, false}
 use mathlib.Core.List.{List, [], _∷_, map}
 use mathlib.Core.Path.{_≡_, refl}
 use lib.ListN.{drop, replicate}
@@ -15,11 +16,13 @@ use Rattle.lines.specs.Settling as settling
 use Rattle.promises.specs.Fairness.{AtMost, AtMostOthers, FairShare, Within}
 use Rattle.promises.specs.KnownRules.{Ruled, ruled, threeCards, settlingIn, played, all-ask, six-again, five-done, knownRules}
 use Rattle.promises.specs.Listing.{line, Q, A, R, replayed, file, listing}
-use Rattle.promises.specs.Runs.{Event, after, grants, times, timesOthers, cardsOf, WaitsThrough, WaitsAtGrants}
+use Rattle.promises.specs.Runs.{Event, outcomeOf, after, grants, times, timesOthers, cardsOf, WaitsThrough, WaitsAtGrants}
 use Rattle.rack.specs.Arbitrate as arbitrate
 use Rattle.rack.specs.Events.{answeredBy, requestRefusal, releaseRefusal}
 use Rattle.rack.specs.Files.{loadOf}
-use Rattle.rack.specs.State.{wellFormed, markFits, setsFit, freshOf}
+use Rattle.rack.specs.State.{countOf, wellFormed, markFits, setsFit, freshOf}
+use Rattle.rack.specs.declared.Bus.the-variants.{Free}
+use Rattle.rack.specs.declared.RackState.{RackState}
 
 -- whoever unfolds this computes with the whole machine
 machine : Type 0
@@ -163,3 +166,32 @@ inhibit-reached = (
   ),
   refl,
 )
+
+-- ---- the bound on waiting counts is reached: at P10 the card 2 of the three has seen both others granted, and no smaller bound will do
+
+seen-two : countOf (after (freshOf (threeCards 2)) five-done) 2 ≡ 2
+unfolding machine threeCards five-done six-again all-ask
+seen-two = refl
+
+three-cards : cardsOf (freshOf (threeCards 2)) ≡ 3
+unfolding machine threeCards
+three-cards = refl
+
+pub counts-reached : countOf (after (freshOf (threeCards 2)) five-done) 2 ≡ cardsOf (freshOf (threeCards 2)) - 1
+counts-reached = omega (arith, seen-two, three-cards)
+
+-- refusal 16 is there: a well-formed state that no run comes to, since both cards' counts are 7, has it at an arbitration
+pub both-full : RackState
+both-full = record {
+  table = two-cards 2;
+  waiting = false ∷ false ∷ true ∷ false ∷ false ∷ false ∷ true ∷ replicate 57 false;
+  counts = 0 ∷ 0 ∷ 7 ∷ 0 ∷ 0 ∷ 0 ∷ 7 ∷ replicate 57 0;
+  batch = replicate 64 false;
+  inhibited = replicate 64 false;
+  last = 0;
+  bus = Free;
+}
+
+pub full-refused : (wellFormed both-full ≡ true) × (outcomeOf both-full A .answer ≡ 16)
+unfolding machine two-cards both-full
+full-refused = (refl, refl)

@@ -1,10 +1,15 @@
--- The demands proved: fairness (Sums to Fairness), states, the round trip of a table, the examples, and that every contract admits one result.
+-- The demands proved: fairness (Sums to Fairness), states, waiting counts (OthersLeft, Counts), the round trip of a table, the most stages, the
+-- examples, and that every contract admits one result.
 pub mod Sums
 pub mod Turns
 pub mod Potentials
 pub mod Share
 pub mod Fairness
 pub mod States
+pub mod OthersLeft
+pub mod Counts
 pub mod RoundTrip
+pub mod Settling
+pub mod Slowest
 pub mod Examples
 pub mod Determined
