@@ -19,9 +19,10 @@ target/staticlib/liblaptop.a: crates.txt $(shell find crates -type f)
 test:
 	.ci/run
 
-# Ratios against a C peer, and the stack of a settling.
+# Ratios against C peers, and the stack of a settling.
 bench: target/bin/racktrace target/staticlib/liblaptop.a
 	bench/run
+	bench/settle
 	bench/stack
 
 # N times the numbers of the gate, with fresh seeds.

@@ -4,11 +4,11 @@ ghost use mathlib.Core.Path.{_≡_};
 ghost use Rattle.cardfile.specs.Format.{loadTableOf};
 ghost use Rattle.laptop.specs.Settle.{SettlesBytes};
 ghost use Rattle.laptop.specs.Table.{GivesTable};
+use settling::refusal_of;
+use settling::run;
 use table::put_table;
-use words::few;
-use words::put_words;
-use words::words_of;
 
+mod settling;
 mod table;
 mod words;
 
@@ -16,21 +16,11 @@ mod words;
 fn settle_bytes(m: u8, numbers: &[u8], stages: &mut [u8]) -> u32
     ensures { λ r. ⌜ SettlesBytes m (now (numbers .entry)) (now (stages .entry)) r (now (stages .exit)) ⌝ }
 {
-    let list = words_of(numbers);
-    let count = few(numbers.len() / 2);
-    let mut lines = [0u16; 13];
-    let done = lines::settle(m, &list[..count], &mut lines);
-    let answer = done.answer;
-    if answer != 0 {
-        return 100 + (answer as u32);
+    let refused = refusal_of(m, numbers, stages.len() / 2);
+    if refused != 0 {
+        return 100 + (refused as u32);
     }
-    if stages.len() / 2 <= m as usize {
-        return 124;
-    }
-    let t = done.stages;
-    let n = t as usize + 1;
-    put_words(&lines[..n], stages);
-    t as u32
+    run(m, numbers, stages) as u32
 }
 
 // Settles m lines for C: t, or 100 plus the refusal. Any m over 12 is refused, and so none is cut to a byte.

@@ -4,6 +4,7 @@ pub mod Stages
 pub mod Conflict
 pub mod Join
 pub mod Trail
+pub mod Walk
 pub mod After
 pub mod Refusal
 pub mod Known

@@ -1,15 +1,16 @@
 -- The refusals: a search through the competing numbers, and what holds where nothing is refused. Assumes nothing.
-use Prim.Native.Nat.{ℕ, zero, suc, _+_, _^_, _≤_, _<_}
+use Prim.Native.Nat.{ℕ, zero, suc, _+_, _*_, _%_, _^_, _≤_, _<_}
+use native.Mathlib.Nat.{one-mul}
 use native.Mathlib.Numerals.{add-one}
 use native.Mathlib.Omega.{arith}
 use mathlib.Core.Bool.{Bool, true, false, cond, _||_, true≢false}
 use mathlib.Core.List.{List, [], _∷_}
-use mathlib.Core.Path.{_≡_, refl, sym, ap}
-use lib.Dec.{leb, ltb, eqb}
-use lib.ListN.{length, getD, drop, drop-of-length-le}
-use lib.Pow.{pow-pos}
+use mathlib.Core.Path.{_≡_, refl, sym, ap, _∙_}
+use lib.Dec.{leb, ltb, eqb, lit<}
+use lib.ListN.{length, getD, drop, replicate, drop-of-length-le, length-replicate}
+use lib.Pow.{pow-pos, shl-exact}
 use lib.Seq.{drop-cons}
-use borrow.Author.Tests.{lt-leb, leb-false, le-ltb, ne-eqb}
+use borrow.Author.Tests.{lt-leb, leb-false, le-ltb, ltb-false, ne-eqb}
 use Rattle.lines.specs.Greatest.{greatest}
 use Rattle.lines.specs.Settle.{someFrom, refusal, Accepted, Settles, Ran}
 use Rattle.lines.specs.declared.Settled.{Settled}
@@ -51,6 +52,53 @@ passed false r rest e = refl
 pub after : (b : Bool) (r rest : ℕ) → cond b (suc r) rest ≡ 0 → rest ≡ 0
 after true r rest e = absurd (omega arith)
 after false r rest e = e
+
+zeros-greatest : (count : ℕ) → greatest (replicate count 0) ≡ 0
+unfolding greatest
+zeros-greatest zero = refl
+zeros-greatest (suc count) = omega (arith, zeros-greatest count)
+
+-- what is refused for m and the count of the numbers, whatever they are
+pub size-is : (m count : ℕ) → refusal m (replicate count 0) (suc m) ≡ cond (eqb m 0 || ltb 12 m) 21 (cond (ltb 64 count) 22 0)
+unfolding refusal
+size-is m count =
+    let none = all-below (2 ^ m) (replicate count 0) (rw zeros-greatest (pow-pos m)) in
+    rw (length-replicate, none, lt-leb (suc m) m (omega arith))
+
+-- and it comes before what is refused for the numbers and the room
+module _ (m : ℕ) (numbers : List ℕ) (size : ℕ) (is : size ≡ refusal m (replicate (length numbers) 0) (suc m)) where
+  spelled : size ≡ cond (eqb m 0 || ltb 12 m) 21 (cond (ltb 64 (length numbers)) 22 0)
+  spelled = is ∙ size-is m (length numbers)
+
+  pub size-refused : (room : ℕ) → (size ≡ 0 → ⊥) → size ≡ refusal m numbers room
+  unfolding refusal
+  size-refused room some = go (eqb m 0 || ltb 12 m) (ltb 64 (length numbers)) spelled
+    where
+      go : (a b : Bool) → size ≡ cond a 21 (cond b 22 0)
+          → size ≡ cond a 21 (cond b 22 (cond (someFrom (2 ^ m) numbers) 23 (cond (leb room m) 24 0)))
+      go true b e = e
+      go false true e = e
+      go false false e = absurd (some e)
+
+  module _ (none : size ≡ 0) where
+    nothing : _≡_ {A = ℕ} (cond (eqb m 0 || ltb 12 m) 21 (cond (ltb 64 (length numbers)) 22 0)) 0
+    nothing = sym spelled ∙ none
+
+    pub at-most-twelve : m ≤ 12
+    at-most-twelve = ltb-false 12 m (neither (eqb m 0) (ltb 12 m) (passed (eqb m 0 || ltb 12 m) 20 _ nothing) .1)
+
+    -- the search for a number that is too great, and the room: what is left of the refusal
+    pub size-passed : (found : Bool) → someFrom (1 * 2 ^ m % 2 ^ 16) numbers ≡ found → (room : ℕ)
+        → refusal m numbers room ≡ cond found 23 (cond (leb room m) 24 0)
+    unfolding refusal
+    size-passed found searched room =
+        let power : 1 * 2 ^ m % 2 ^ 16 ≡ 2 ^ m = shl-exact 1 m 16 (lit< tt) (omega (arith, at-most-twelve)) ∙ one-mul (2 ^ m) in
+        let over : someFrom (2 ^ m) numbers ≡ found = sym (ap (λ (limit : ℕ). someFrom limit numbers) power) ∙ searched in
+        rw (
+          passed (eqb m 0 || ltb 12 m) 20 _ nothing,
+          passed (ltb 64 (length numbers)) 21 _ (after (eqb m 0 || ltb 12 m) 20 _ nothing),
+          over,
+        )
 
 -- nothing is refused: a run from 0 may count on what it asks
 pub accepted : (m : ℕ) (numbers : List ℕ) (room : ℕ) → refusal m numbers room ≡ 0 → Accepted m numbers 0 room

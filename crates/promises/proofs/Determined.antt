@@ -1,17 +1,18 @@
 -- For each public function: any two results that its contract admits for one input are equal, and so are the last contents of the memory that it was
 -- lent. Each contract stands here as the source has it, after `ensures`. Assumes nothing.
-use Prim.Native.Nat.{ℕ}
+use Prim.Native.Nat.{ℕ, suc, _^_, _<_}
 use mathlib.Core.Bool.{Bool}
 use mathlib.Core.List.{List, []}
 use mathlib.Core.Path.{_≡_, sym, ap, _∙_}
-use lib.ListN.{length}
+use lib.ListN.{length, replicate}
 use Rattle.cardfile.specs.Format.{wordOf, loadTableOf}
 use Rattle.cards.specs.Saving.{savedOf, bufferAfter}
 use Rattle.cards.specs.Table.{inTable, topNumber, tableGood}
 use Rattle.cards.specs.declared.Table.{Table}
 use Rattle.laptop.specs.Settle.{SettlesBytes}
 use Rattle.laptop.specs.Table.{GivesTable}
-use Rattle.lines.specs.Settle.{Settles}
+use Rattle.lines.specs.Settle.{Settles, refusal}
+use Rattle.lines.specs.Settling.{applied}
 use Rattle.rack.specs.Arbitrate.{arbitrateOf, eventOf}
 use Rattle.rack.specs.Events.{requestOf, releaseOf}
 use Rattle.rack.specs.Files.{loadOf, saveOf, saveAfter}
@@ -49,6 +50,14 @@ one-reply x y b c p q = one-result-left (p .reply, p .marks-left) (q .reply, q .
 
 pub settle-determined : (m : ℕ) (numbers buffer : List ℕ) → DeterminedLeft (Settles m numbers buffer)
 settle-determined m numbers buffer x y b c p q = one-result-left (p .result, p .left) (q .result, q .left)
+
+-- numbers of 16 bits fit 16 lines
+pub applied-by-determined : (lines own : ℕ) → lines < 2 ^ 16 → own < 2 ^ 16
+    → Determined (λ r. (m : ℕ) → lines < 2 ^ m → own < 2 ^ m → r ≡ applied m lines own)
+applied-by-determined lines own fits small x y p q = one-result (p 16 fits small) (q 16 fits small)
+
+pub refusal-of-size-determined : (m count : ℕ) → Determined (λ r. r ≡ refusal m (replicate count 0) (suc m))
+refusal-of-size-determined m count x y = one-result
 
 -- ---- cards
 

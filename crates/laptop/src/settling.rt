@@ -1,0 +1,72 @@
+// Settling from the bytes as lent: each number is read where it is used, and each stage is written as it comes.
+ghost use Prim.Native.Nat.{ℕ, _/_, _<_, _^_};
+ghost use mathlib.Core.Path.{_≡_};
+ghost use lib.ListN.{length};
+ghost use Rattle.laptop.specs.Settle.{codeOr, bytesOr};
+ghost use Rattle.laptop.specs.Words.{words};
+ghost use Rattle.lines.specs.Greatest.{greatest};
+ghost use Rattle.lines.specs.Settle.{Accepted, refusal, someFrom};
+ghost use Rattle.lines.specs.Settling.{stage};
+use super::words::put_word;
+use super::words::word_at;
+
+// Whether some number is `limit` or more.
+fn some_from(numbers: &[u8], limit: u16) -> bool
+    ensures { λ r. ⌜ r ≡ someFrom limit (words (now (numbers .entry))) ⌝ }
+{
+    let mut some = false;
+    for i in 0..numbers.len() / 2 {
+        some = some | (limit <= word_at(numbers, i));
+    }
+    some
+}
+
+// The first refusal that fits, or 0.
+pub(crate) fn refusal_of(m: u8, numbers: &[u8], room: usize) -> u8
+    ensures { λ r. ⌜ r ≡ refusal m (words (now (numbers .entry))) room ⌝ }
+{
+    let size = lines::refusal_of_size(m, numbers.len() / 2);
+    if size != 0 {
+        return size;
+    }
+    if some_from(numbers, 1 << m) {
+        return 23;
+    }
+    if room <= m as usize {
+        return 24;
+    }
+    0
+}
+
+// The lines after the next stage.
+fn next_stage(numbers: &[u8], lines: u16) -> u16
+    ensures { λ r.
+        ⌜ ((m : ℕ) → greatest (words (now (numbers .entry))) < 2 ^ m → lines < 2 ^ m → r ≡ stage m (words (now (numbers .entry))) lines) ⌝ }
+{
+    let mut joined: u16 = 0;
+    for i in 0..numbers.len() / 2 {
+        joined = joined | lines::applied_by(lines, word_at(numbers, i));
+    }
+    joined
+}
+
+// Stage after stage from lines at 0, until two neighbouring ones agree: t. At most m stages change a line, so the loop takes at most m + 1 turns.
+pub(crate) fn run(m: u8, numbers: &[u8], stages: &mut [u8]) -> u8
+    requires { ⌜ Accepted m (words (now numbers)) 0 (length (now stages) / 2) ⌝ }
+    ensures { λ r.
+        ⌜ (r ≡ codeOr 0 m (words (now (numbers .entry))))
+        × (now (stages .exit) ≡ bytesOr 0 m (words (now (numbers .entry))) (now (stages .entry))) ⌝ }
+{
+    let mut t: u8 = 0;
+    let mut lines: u16 = 0;
+    put_word(0, 0, stages);
+    loop {
+        let next = next_stage(numbers, lines);
+        if next == lines {
+            break t;
+        }
+        t += 1;
+        lines = next;
+        put_word(next, t as usize, stages);
+    }
+}
