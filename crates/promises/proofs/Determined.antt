@@ -1,26 +1,30 @@
 -- For each public function: any two results that its contract admits for one input are equal, and so are the last contents of the memory that it was
 -- lent. Each contract stands here as the source has it, after `ensures`. Assumes nothing.
-use Prim.Native.Nat.{ℕ, suc, _^_, _<_}
+use Prim.Native.Nat.{ℕ, suc, _^_, _≤_, _<_}
 use mathlib.Core.Bool.{Bool}
 use mathlib.Core.List.{List, []}
 use mathlib.Core.Path.{_≡_, sym, ap, _∙_}
 use lib.ListN.{length, replicate}
+use Rattle.arbiter.specs.Arbitrate.{arbitrateOf, eventOf}
+use Rattle.arbiter.specs.Events.{requestOf, releaseOf}
+use Rattle.arbiter.specs.Lent.{stateOf, Leaves, Requests, Releases, Arbitrates}
+use Rattle.arbiter.specs.State.{wellFormed, freshOf}
+use Rattle.arbiter.specs.declared.Hold.{Hold}
+use Rattle.arbiter.specs.declared.Outcome.{Outcome}
+use Rattle.arbiter.specs.declared.RackState.{RackState}
 use Rattle.cardfile.specs.Format.{wordOf, loadTableOf}
+use Rattle.cards.specs.Below.{anyBelow}
 use Rattle.cards.specs.Saving.{savedOf, bufferAfter}
 use Rattle.cards.specs.Table.{inTable, topNumber, tableGood}
 use Rattle.cards.specs.declared.Table.{Table}
+use Rattle.contest.specs.Marks.{isIn, Marks, marks}
+use Rattle.contest.specs.Rules.{spanOf}
+use Rattle.contest.specs.Shown.{firstAt, shownSettling}
 use Rattle.laptop.specs.Settle.{SettlesBytes}
 use Rattle.laptop.specs.Table.{GivesTable}
 use Rattle.lines.specs.Settle.{Settles, refusal}
 use Rattle.lines.specs.Settling.{applied}
-use Rattle.rack.specs.Arbitrate.{arbitrateOf, eventOf}
-use Rattle.rack.specs.Events.{requestOf, releaseOf}
 use Rattle.rack.specs.Files.{loadOf, saveOf, saveAfter}
-use Rattle.rack.specs.Lent.{Marks, marks, stateOf, Leaves, Requests, Releases, Arbitrates}
-use Rattle.rack.specs.State.{wellFormed, freshOf}
-use Rattle.rack.specs.declared.Hold.{Hold}
-use Rattle.rack.specs.declared.Outcome.{Outcome}
-use Rattle.rack.specs.declared.RackState.{RackState}
 use Rattle.trace.specs.Line.{lineOf, textOf}
 use Rattle.trace.specs.Listing.{Lists}
 
@@ -81,6 +85,40 @@ word-determined low high x y = one-result
 pub load-table-determined : (file : List ℕ) → Determined (λ r. r ≡ loadTableOf file)
 load-table-determined file x y = one-result
 
+-- ---- contest
+
+pub span-determined : (k : ℕ) → Determined (λ r. (r ≡ spanOf k) × ((1 ≤ r) × (r ≤ 64)))
+span-determined k x y p q = one-result (p .0) (q .0)
+
+pub some-marked-determined : (cards : List Bool) → Determined (λ r. r ≡ anyBelow 64 (isIn cards))
+some-marked-determined cards x y = one-result
+
+pub some-first-determined : (rule : ℕ) (waiting batch inhibited : List Bool) → Determined (λ r. r ≡ anyBelow 64 (firstAt rule waiting batch inhibited))
+some-first-determined rule waiting batch inhibited x y = one-result
+
+pub settling-of-determined : (k rule last : ℕ) (anew : Bool) (m : Marks) → Determined (λ r. r ≡ shownSettling k rule last anew m)
+settling-of-determined k rule last anew m x y = one-result
+
+-- ---- arbiter. A contract there holds whatever the parts are that the event does not look at: one choice of them will do.
+
+pub state-of-determined : (t : Table) (m : Marks) (hold : Hold) → Determined (λ r. r ≡ stateOf t m hold)
+state-of-determined t m hold x y = one-result
+
+pub request-in-determined : (formed : Bool) (slots : List ℕ) (waiting : List Bool) (counts : List ℕ) (hold : Hold) (a : ℕ)
+    → DeterminedTwo (Requests formed slots waiting counts hold a)
+request-in-determined formed slots waiting counts hold a x y b c l m p q =
+    let one = one-reply x y (marks b l [] []) (marks c m [] []) (p .left 0 0 [] []) (q .left 0 0 [] []) in
+    (one .0, ap (λ (all : Marks). all .waiting) (one .1), ap (λ (all : Marks). all .counts) (one .1))
+
+pub release-in-determined : (formed : Bool) (rule : ℕ) (slots : List ℕ) (inhibited : List Bool) (hold : Hold) (a : ℕ)
+    → DeterminedLeft (Releases formed rule slots inhibited hold a)
+release-in-determined formed rule slots inhibited hold a x y b c p q =
+    let one = one-reply x y (marks [] [] [] b) (marks [] [] [] c) (p .left 0 [] [] []) (q .left 0 [] [] []) in
+    (one .0, ap (λ (all : Marks). all .inhibited) (one .1))
+
+pub arbitrate-in-determined : (formed : Bool) (k rule : ℕ) (m : Marks) (hold : Hold) → DeterminedLeft (Arbitrates formed k rule m hold)
+arbitrate-in-determined formed k rule m hold x y b c p q = one-reply x y b c (p .left []) (q .left [])
+
 -- ---- rack
 
 pub well-formed-determined : (s : RackState) → Determined (λ r. r ≡ wellFormed s)
@@ -106,26 +144,6 @@ load-determined file x y = one-result
 
 pub save-determined : (s : RackState) (buf : List ℕ) → DeterminedLeft (λ r left. (r ≡ saveOf s (length buf)) × (left ≡ saveAfter s buf))
 save-determined s buf x y b c = one-result-left
-
--- ---- rack, on lent marks. A contract there holds whatever the parts are that the event does not look at: one choice of them will do.
-
-pub state-of-determined : (t : Table) (m : Marks) (hold : Hold) → Determined (λ r. r ≡ stateOf t m hold)
-state-of-determined t m hold x y = one-result
-
-pub request-in-determined : (formed : Bool) (slots : List ℕ) (waiting : List Bool) (counts : List ℕ) (hold : Hold) (a : ℕ)
-    → DeterminedTwo (Requests formed slots waiting counts hold a)
-request-in-determined formed slots waiting counts hold a x y b c l m p q =
-    let one = one-reply x y (marks b l [] []) (marks c m [] []) (p .left 0 0 [] []) (q .left 0 0 [] []) in
-    (one .0, ap (λ (all : Marks). all .waiting) (one .1), ap (λ (all : Marks). all .counts) (one .1))
-
-pub release-in-determined : (formed : Bool) (rule : ℕ) (slots : List ℕ) (inhibited : List Bool) (hold : Hold) (a : ℕ)
-    → DeterminedLeft (Releases formed rule slots inhibited hold a)
-release-in-determined formed rule slots inhibited hold a x y b c p q =
-    let one = one-reply x y (marks [] [] [] b) (marks [] [] [] c) (p .left 0 [] [] []) (q .left 0 [] [] []) in
-    (one .0, ap (λ (all : Marks). all .inhibited) (one .1))
-
-pub arbitrate-in-determined : (formed : Bool) (k rule : ℕ) (m : Marks) (hold : Hold) → DeterminedLeft (Arbitrates formed k rule m hold)
-arbitrate-in-determined formed k rule m hold x y b c p q = one-reply x y b c (p .left []) (q .left [])
 
 -- ---- trace
 

@@ -6,10 +6,16 @@ use mathlib.Core.Bool.{true, false}
 use mathlib.Core.List.{List, [], _∷_, map}
 use mathlib.Core.Path.{_≡_, refl}
 use lib.ListN.{drop, replicate}
+use Rattle.arbiter.specs.Arbitrate as arbitrate
+use Rattle.arbiter.specs.Events.{answeredBy, requestRefusal, releaseRefusal}
+use Rattle.arbiter.specs.State.{countOf, wellFormed, markFits, setsFit, freshOf}
+use Rattle.arbiter.specs.declared.Bus.the-variants.{Free}
+use Rattle.arbiter.specs.declared.RackState.{RackState}
 use Rattle.cardfile.specs.Format as format
 use Rattle.cards.specs.Below as below
 use Rattle.cards.specs.Table as table
 use Rattle.cards.specs.declared.Table.{Table}
+use Rattle.contest.specs.Rules as rules
 use Rattle.lines.specs.Known.{row, known}
 use Rattle.lines.specs.Settle as settle
 use Rattle.lines.specs.Settling as settling
@@ -17,19 +23,14 @@ use Rattle.promises.specs.Fairness.{AtMost, AtMostOthers, FairShare, Wit
 use Rattle.promises.specs.KnownRules.{Ruled, ruled, threeCards, settlingIn, played, all-ask, six-again, five-done, knownRules}
 use Rattle.promises.specs.Listing.{line, Q, A, R, replayed, file, listing}
 use Rattle.promises.specs.Runs.{Event, outcomeOf, after, grants, times, timesOthers, cardsOf, WaitsThrough, WaitsAtGrants}
-use Rattle.rack.specs.Arbitrate as arbitrate
-use Rattle.rack.specs.Events.{answeredBy, requestRefusal, releaseRefusal}
 use Rattle.rack.specs.Files.{loadOf}
-use Rattle.rack.specs.State.{countOf, wellFormed, markFits, setsFit, freshOf}
-use Rattle.rack.specs.declared.Bus.the-variants.{Free}
-use Rattle.rack.specs.declared.RackState.{RackState}
 
 -- whoever unfolds this computes with the whole machine
 machine : Type 0
 unfolding below.allBelow below.anyBelow below.sumBelow below.tabulate below.rowsBelow
     table.hasCard table.inTable table.slotIsNew table.numberGood table.slotsGood table.tableGood
     markFits setsFit wellFormed answeredBy requestRefusal releaseRefusal
-    arbitrate.byRule arbitrate.linesBy arbitrate.numberOf arbitrate.goesFirst arbitrate.somePreferred arbitrate.competes
+    rules.byRule rules.linesBy arbitrate.numberOf rules.goesFirst arbitrate.somePreferred arbitrate.competes
     arbitrate.batchNow arbitrate.inhibitedNow arbitrate.competingBelow arbitrate.someLoserFull
     arbitrate.losersCounted arbitrate.granted arbitrate.wonBy arbitrate.arbitrated arbitrate.arbitrateRefusal arbitrate.eventOf
     settle.someFrom settle.refusal

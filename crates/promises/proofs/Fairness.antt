@@ -4,6 +4,10 @@ use native.Mathlib.Omega.{arith}
 use mathlib.Core.List.{List}
 use mathlib.Core.Logic.{_⊎_, inl, inr, _≢_}
 use mathlib.Core.Path.{_≡_, refl, ap}
+use Rattle.arbiter.proofs.Open.{BatchRule}
+use Rattle.arbiter.proofs.Winner.{FairRule}
+use Rattle.arbiter.specs.State.{freshOf}
+use Rattle.arbiter.specs.declared.RackState.{RackState}
 use Rattle.cards.proofs.Below.{same-or-not}
 use Rattle.cards.specs.Table.{cardCount}
 use Rattle.cards.specs.declared.Table.{Table}
@@ -12,10 +16,6 @@ use Rattle.promises.proofs.Share.{share, others}
 use Rattle.promises.proofs.Turns.{Potential, bounded, ahead, same-table}
 use Rattle.promises.specs.Fairness.{AtMost, AtMostOthers, Within, Fair, FairRules, FairByTwo, BatchRules}
 use Rattle.promises.specs.Runs.{Event, after, grants, times, cardsOf}
-use Rattle.rack.proofs.Open.{BatchRule}
-use Rattle.rack.proofs.Winner.{FairRule}
-use Rattle.rack.specs.State.{freshOf}
-use Rattle.rack.specs.declared.RackState.{RackState}
 
 -- the events before leave the rule and the cards as they were
 rules-after : (rules : ℕ → Type 0) (t : Table) (rule : ℕ) → t .rule ≡ rule → (before : List Event) → rules rule

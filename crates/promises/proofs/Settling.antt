@@ -5,18 +5,18 @@ use mathlib.Core.Bool.{Bool, true, false, cond}
 use mathlib.Core.Path.{_≡_, refl}
 use lib.Dec.{eqb}
 use lib.Pow.{pow-pos}
+use Rattle.arbiter.proofs.Formed.{Formed, formed-of}
+use Rattle.arbiter.proofs.Numbers.{wide, greatest-fits, settles}
+use Rattle.arbiter.specs.Arbitrate.{linesOf, competing, settlingOf, winnerOf, someLoserFull, grantTo, wonBy, arbitrated, arbitrateRefusal}
+use Rattle.arbiter.specs.Events.{answered, answeredBy}
+use Rattle.arbiter.specs.State.{wellFormed}
+use Rattle.arbiter.specs.declared.Outcome.{Outcome}
+use Rattle.arbiter.specs.declared.RackState.{RackState}
 use Rattle.lines.proofs.Intervals.{stages-intervals}
 use Rattle.lines.proofs.Promises.{greatest-in}
 use Rattle.lines.proofs.Stages.{stages-le, settled-greatest}
 use Rattle.lines.specs.Intervals.{intervalNumber}
 use Rattle.promises.specs.Settling.{StagesWithin, ArbitrationWithin}
-use Rattle.rack.proofs.Formed.{Formed, formed-of}
-use Rattle.rack.proofs.Numbers.{wide, greatest-fits, settles}
-use Rattle.rack.specs.Arbitrate.{linesOf, competing, settlingOf, winnerOf, someLoserFull, grantTo, wonBy, arbitrated, arbitrateRefusal}
-use Rattle.rack.specs.Events.{answered, answeredBy}
-use Rattle.rack.specs.State.{wellFormed}
-use Rattle.rack.specs.declared.Outcome.{Outcome}
-use Rattle.rack.specs.declared.RackState.{RackState}
 
 -- each part from what its law says, by arithmetic
 pub stages-within : StagesWithin

@@ -10,6 +10,11 @@ use mathlib.Core.Path.{_≡_, refl, sym, ap, _∙_, subst}
 use lib.Dec.{eqb}
 use lib.ListN.{length}
 use borrow.Author.Tests.{eq-eqb, ne-eqb, lt-ltb}
+use Rattle.arbiter.proofs.Formed.{waiting-below, waiting-card}
+use Rattle.arbiter.proofs.Seen.{Seen, quiet, grant}
+use Rattle.arbiter.proofs.Winner.{FairRule}
+use Rattle.arbiter.specs.State.{waits, isCard}
+use Rattle.arbiter.specs.declared.RackState.{RackState}
 use Rattle.cards.proofs.Below.{same-or-not}
 use Rattle.cards.specs.Below.{sumBelow}
 use Rattle.cards.specs.Table.{hasCard}
@@ -18,11 +23,6 @@ use Rattle.promises.proofs.Potentials.{fair-potential}
 use Rattle.promises.proofs.Sums.{sum-zero, sum-add, sum-one, sum-scale, sum-le, sum-lt}
 use Rattle.promises.proofs.Turns.{seen-event, same-table-after, ahead}
 use Rattle.promises.specs.Runs.{Event, outcomeOf, next, winner, isGrant, grants, times, timesOthers, cardsOf, WaitsThrough, WaitsAtGrants}
-use Rattle.rack.proofs.Formed.{waiting-below, waiting-card}
-use Rattle.rack.proofs.Seen.{Seen, quiet, grant}
-use Rattle.rack.proofs.Winner.{FairRule}
-use Rattle.rack.specs.State.{waits, isCard}
-use Rattle.rack.specs.declared.RackState.{RackState}
 
 -- ---- a list of cards
 

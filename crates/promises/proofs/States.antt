@@ -5,20 +5,20 @@ use mathlib.Core.List.{List}
 use mathlib.Core.Logic.{_⊎_, inl, inr, _≢_}
 use mathlib.Core.Path.{_≡_, refl, ap}
 use lib.Dec.{eqb}
+use Rattle.arbiter.proofs.Formed.{formed-of, fresh-well-formed}
+use Rattle.arbiter.proofs.Kept.{stays-well-formed}
+use Rattle.arbiter.proofs.Numbers.{settles}
+use Rattle.arbiter.specs.Arbitrate.{settlingOf, winnerOf, someLoserFull, grantTo, wonBy, arbitrated, arbitrateRefusal, eventOf}
+use Rattle.arbiter.specs.Events.{answered, answeredBy, requestRefusal, releaseRefusal}
+use Rattle.arbiter.specs.State.{wellFormed, freshOf}
+use Rattle.arbiter.specs.declared.Outcome.{Outcome}
+use Rattle.arbiter.specs.declared.RackState.{RackState}
 use Rattle.cardfile.proofs.LoadedGood.{loaded-good, refused-zero}
 use Rattle.cardfile.specs.Format.{refusedWith}
 use Rattle.cards.specs.Table.{tableGood}
 use Rattle.lines.specs.declared.Settled.{Settled}
 use Rattle.promises.specs.States.{StaysWellFormed, LoadsWellFormed, RefusedEventKeeps, IllFormedRefused, OnlyFullRefuses}
-use Rattle.rack.proofs.Formed.{formed-of, fresh-well-formed}
-use Rattle.rack.proofs.Kept.{stays-well-formed}
-use Rattle.rack.proofs.Numbers.{settles}
-use Rattle.rack.specs.Arbitrate.{settlingOf, winnerOf, someLoserFull, grantTo, wonBy, arbitrated, arbitrateRefusal, eventOf}
-use Rattle.rack.specs.Events.{answered, answeredBy, requestRefusal, releaseRefusal}
 use Rattle.rack.specs.Files.{loadOf}
-use Rattle.rack.specs.State.{wellFormed, freshOf}
-use Rattle.rack.specs.declared.Outcome.{Outcome}
-use Rattle.rack.specs.declared.RackState.{RackState}
 
 pub events-keep-formed : StaysWellFormed
 events-keep-formed s e = stays-well-formed s (e .letter) (e .number)

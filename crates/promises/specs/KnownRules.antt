@@ -3,15 +3,15 @@
 use Prim.Native.Nat.{ℕ}
 use mathlib.Core.List.{List, [], _∷_, _++_}
 use lib.ListN.{replicate}
+use Rattle.arbiter.specs.Arbitrate.{linesOf, competing, settlingOf}
+use Rattle.arbiter.specs.State.{waits, countOf, freshOf}
+use Rattle.arbiter.specs.declared.RackState.{RackState}
 use Rattle.cards.specs.Below.{rowsBelow}
 use Rattle.cards.specs.declared.Table.{Table}
 use Rattle.lines.specs.Known.{Known, row}
 use Rattle.lines.specs.Settling.{trail}
 use Rattle.promises.specs.Listing.{Q, A, R}
 use Rattle.promises.specs.Runs.{Event, after}
-use Rattle.rack.specs.Arbitrate.{linesOf, competing, settlingOf}
-use Rattle.rack.specs.State.{waits, countOf, freshOf}
-use Rattle.rack.specs.declared.RackState.{RackState}
 
 -- the rule and the events; then the last winner, the cards that wait, by rising number, with their counts; and their settling
 pub record Ruled : Type 0 where

@@ -2,11 +2,11 @@
 use Prim.Native.Nat.{ℕ, _^_, _≤_, _<_}
 use mathlib.Core.List.{List}
 use lib.ListN.{length, getD}
+use Rattle.arbiter.specs.Arbitrate.{linesOf, arbitrateOf}
+use Rattle.arbiter.specs.declared.RackState.{RackState}
 use Rattle.lines.specs.Greatest.{greatest}
 use Rattle.lines.specs.Intervals.{intervalNumber}
 use Rattle.lines.specs.Settling.{stages}
-use Rattle.rack.specs.Arbitrate.{linesOf, arbitrateOf}
-use Rattle.rack.specs.declared.RackState.{RackState}
 
 -- For a non-empty list, each number below 2 ^ m, settling takes no more stages than the interval-number of the greatest competing number, and never
 -- more than m.

@@ -4,13 +4,13 @@ use mathlib.Core.Bool.{true, false}
 use mathlib.Core.List.{List}
 use mathlib.Core.Logic.{_⊎_, _≢_}
 use mathlib.Core.Path.{_≡_}
+use Rattle.arbiter.specs.Arbitrate.{arbitrateOf, byLetter}
+use Rattle.arbiter.specs.Events.{answered}
+use Rattle.arbiter.specs.State.{waits, isClosed, wellFormed}
+use Rattle.arbiter.specs.declared.RackState.{RackState}
 use Rattle.cards.specs.Below.{anyBelow}
 use Rattle.promises.specs.Runs.{Event, outcomeOf, next}
-use Rattle.rack.specs.Arbitrate.{arbitrateOf, byLetter}
-use Rattle.rack.specs.Events.{answered}
 use Rattle.rack.specs.Files.{loadOf}
-use Rattle.rack.specs.State.{waits, isClosed, wellFormed}
-use Rattle.rack.specs.declared.RackState.{RackState}
 
 -- every event keeps a well-formed state well formed
 abbrev pub StaysWellFormed : Type 0

@@ -1,73 +1,32 @@
 // The rack: a state by value, which holds the card table, one array for each mark of a card, and the bus; its events; and its file.
 ghost use mathlib.Core.Path.{_≡_};
 ghost use lib.ListN.{length};
-ghost use Rattle.rack.specs.Arbitrate.{arbitrateOf, eventOf};
-ghost use Rattle.rack.specs.Events.{requestOf, releaseOf};
+ghost use Rattle.arbiter.specs.Arbitrate.{arbitrateOf, eventOf};
+ghost use Rattle.arbiter.specs.Events.{requestOf, releaseOf};
+ghost use Rattle.arbiter.specs.State.{wellFormed, freshOf};
 ghost use Rattle.rack.specs.Files.{loadOf, saveOf, saveAfter};
-ghost use Rattle.rack.specs.State.{wellFormed, freshOf};
 use answers::outcome_of;
 use answers::refused;
+use arbiter::Bus;
+use arbiter::Hold;
+use arbiter::Outcome;
+use arbiter::RackState;
+use arbiter::arbitrate_in;
+use arbiter::release_in;
+use arbiter::request_in;
 use cards::Saved;
 use cards::Table;
-use lent::arbitrate_in;
-use lent::release_in;
-use lent::request_in;
 use marks::bus_ok;
 use marks::last_ok;
 use marks::marks_ok;
 
 mod answers;
-mod arbitration;
-pub mod lent;
 mod marks;
-mod sets;
-
-// The bus is free, or held by the card of that number.
-pub enum Bus {
-    Free,
-    Held(u8),
-}
-
-// The state: the table, who waits, the waiting counts, the batch (rule 3), who is inhibited (rule 4), the last winner (0 for none yet), and the bus.
-// Arrays go by arbitration number.
-pub struct RackState {
-    pub table: Table,
-    pub waiting: [bool; 64],
-    pub counts: [u8; 64],
-    pub batch: [bool; 64],
-    pub inhibited: [bool; 64],
-    pub last: u8,
-    pub bus: Bus,
-}
-
-// What an event gives: the next state, the answer, and of a grant the winner, the settled lines and the stages.
-pub struct Outcome {
-    pub state: RackState,
-    pub answer: u8,
-    pub winner: u8,
-    pub lines: u16,
-    pub stages: u8,
-}
 
 // What a load gives: the answer and a state.
 pub struct Loaded {
     pub answer: u8,
     pub state: RackState,
-}
-
-// The last winner and the bus: what is left of a state beside its table and its marks.
-pub struct Hold {
-    pub last: u8,
-    pub bus: Bus,
-}
-
-// What an event on lent marks gives: an outcome without the table and the marks.
-pub struct Reply {
-    pub hold: Hold,
-    pub answer: u8,
-    pub winner: u8,
-    pub lines: u16,
-    pub stages: u8,
 }
 
 // Whether the state is well formed. A state that is not is refused with 17 by every event.

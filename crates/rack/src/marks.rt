@@ -1,51 +1,13 @@
-// What a state says of each number, and whether it is well formed.
-ghost use Prim.Native.Nat.{_^_, _≤_, _<_};
+// Whether a state is well formed: its marks, its last winner and its bus.
+ghost use Prim.Native.Nat.{_≤_};
 ghost use mathlib.Core.Bool.{not, _&&_, _||_};
 ghost use mathlib.Core.Path.{_≡_};
 ghost use lib.Dec.{ltb, eqb};
+ghost use Rattle.arbiter.specs.State.{markOk, lastOk, busOk};
 ghost use Rattle.cards.specs.Below.{allBelow};
-ghost use Rattle.rack.specs.State.{isIn, markOk, lastOk, busOk, isClosed, isHolder};
-use super::Bus;
-use super::RackState;
-
-// Two to the number width.
-pub(crate) fn span(k: u8) -> u16
-    requires { ⌜ k ≤ 6 ⌝ }
-    ensures { λ r. ⌜ (r ≡ 2 ^ k) × ((1 ≤ r) × (r ≤ 64)) ⌝ }
-{
-    1u16 << k
-}
-
-// Whether the card of that number, one of the 64, waits.
-pub(crate) fn waits_at(waiting: &[bool; 64], a: u8) -> bool
-    ensures { λ r. ⌜ r ≡ (ltb a 64 && isIn (now (waiting .entry)) a) ⌝ }
-{
-    if 64 <= a {
-        return false;
-    }
-    let i = a as usize;
-    waiting[i]
-}
-
-// Whether the card of that number holds the bus.
-pub(crate) fn is_holder(bus: Bus, a: u8) -> bool
-    ensures { λ r. ⌜ r ≡ isHolder bus a ⌝ }
-{
-    match bus {
-        Bus::Free => false,
-        Bus::Held(h) => h == a,
-    }
-}
-
-// Whether the bus is closed to arbitration.
-pub(crate) fn is_closed(bus: Bus) -> bool
-    ensures { λ r. ⌜ r ≡ isClosed bus ⌝ }
-{
-    match bus {
-        Bus::Free => false,
-        Bus::Held(_) => true,
-    }
-}
+use arbiter::Bus;
+use arbiter::RackState;
+use contest::span;
 
 // The marks of a number: only a card waits, a count is below 2 ^ k, and 0 but for a waiting card under rule 2.
 pub(crate) fn mark_fits(slot: u8, span: u16, arrival: bool, waits: bool, count: u8) -> bool

@@ -1,8 +1,8 @@
 // The layout of a state in a record, which the program's first lines describe.
 ghost use Prim.Native.Nat.{_+_, _≤_};
+use arbiter::Bus;
+use arbiter::RackState;
 use cards::Table;
-use rack::Bus;
-use rack::RackState;
 
 const K: usize = 0;
 

@@ -28,6 +28,7 @@
 //   330  the bytes that were lent, as the save left them
 //
 // Each record is answered before the next is read. The program ends where the input ends or a record is short.
+use arbiter::RackState;
 use layout::AFTER;
 use layout::RECORD;
 use layout::bytes_of;
@@ -36,7 +37,6 @@ use layout::low_byte;
 use layout::state_from;
 use libc::STDIN_FILENO;
 use libc::STDOUT_FILENO;
-use rack::RackState;
 
 mod layout;
 

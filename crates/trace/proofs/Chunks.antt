@@ -8,7 +8,7 @@ use mathlib.Core.List.{List, [], _++_, append-assoc, append-nil}
 use mathlib.Core.Path.{_≡_, refl, sym, _∙_}
 use lib.ListN.{length, getD, take, drop, length-append, List·getD-append}
 use lib.Seq.{getD-append-add, take-at}
-use Rattle.rack.specs.declared.RackState.{RackState}
+use Rattle.arbiter.specs.declared.RackState.{RackState}
 use Rattle.trace.proofs.Laws.{text-length, ended-stays, ran-as}
 use Rattle.trace.specs.Listing.{lineIn, textIn, Listed, Listing, withLine, lineAt, listing, linesWithin, ranOf, Lists, followedBy, thenListing}
 use Rattle.trace.specs.declared.Ran.{Ran}

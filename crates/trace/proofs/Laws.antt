@@ -10,20 +10,21 @@ use lib.Dec.{leb, eqb}
 use lib.ListN.{length, take, drop, length-append, length-drop, drop-of-length-le}
 use lib.Seq.{take-at, drop-at, drop-drop, take-all}
 use borrow.Author.Tests.{leb-true}
+use Rattle.arbiter.proofs.Kept.{same-form}
+use Rattle.arbiter.proofs.Leaving.{table-kept, arbitrated-table, state-again}
+use Rattle.arbiter.proofs.Tests.{and-left, and-right}
+use Rattle.arbiter.specs.Arbitrate.{eventOf}
+use Rattle.arbiter.specs.Lent.{stateOf, Leaves}
+use Rattle.arbiter.specs.State.{wellFormed}
+use Rattle.arbiter.specs.declared.Hold.{Hold}
+use Rattle.arbiter.specs.declared.RackState.{RackState}
+use Rattle.arbiter.specs.declared.Reply.{Reply}
 use Rattle.cards.specs.declared.Table.{Table}
-use Rattle.rack.proofs.Kept.{same-form}
-use Rattle.rack.proofs.Leaving.{table-kept, arbitrated-table, state-again}
-use Rattle.rack.proofs.Tests.{and-left, and-right}
-use Rattle.rack.specs.Arbitrate.{eventOf}
-use Rattle.rack.specs.Lent.{Marks, stateOf, Leaves}
-use Rattle.rack.specs.State.{wellFormed}
-use Rattle.rack.specs.declared.Hold.{Hold}
-use Rattle.rack.specs.declared.RackState.{RackState}
-use Rattle.rack.specs.declared.Reply.{Reply}
+use Rattle.contest.specs.Marks.{Marks}
 use Rattle.trace.specs.Line.{isDigit, shaped, isMalformed, lineOutcome, textOf, lineText}
 use Rattle.trace.specs.Listing.{lineIn, textIn, Listed, lineAt, Listing, withLine, listing, ranOf}
-use Rattle.trace.specs.declared.Line.the-variants.{Request, Arbitrate, Release, Malformed}
 use Rattle.trace.specs.declared.Line.{Line}
+use Rattle.trace.specs.declared.Line.the-variants.{Request, Arbitrate, Release, Malformed}
 
 -- a byte that is a digit
 digit-range : (b : ℕ) → isDigit b ≡ true → (48 ≤ b) × (b ≤ 57)

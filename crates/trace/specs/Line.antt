@@ -3,12 +3,12 @@ use Prim.Native.Nat.{ℕ, _+_, _-_, _*_, _/_, _%_}
 use mathlib.Core.Bool.{Bool, true, false, cond, _&&_}
 use mathlib.Core.List.{List, [], _∷_}
 use lib.Dec.{leb, eqb}
-use Rattle.rack.specs.Arbitrate.{arbitrateOf, byLetter}
-use Rattle.rack.specs.Events.{answered, requestOf, releaseOf}
-use Rattle.rack.specs.declared.Outcome.{Outcome}
-use Rattle.rack.specs.declared.RackState.{RackState}
-use Rattle.trace.specs.declared.Line.the-variants.{Request, Arbitrate, Release, Malformed}
+use Rattle.arbiter.specs.Arbitrate.{arbitrateOf, byLetter}
+use Rattle.arbiter.specs.Events.{answered, requestOf, releaseOf}
+use Rattle.arbiter.specs.declared.Outcome.{Outcome}
+use Rattle.arbiter.specs.declared.RackState.{RackState}
 use Rattle.trace.specs.declared.Line.{Line}
+use Rattle.trace.specs.declared.Line.the-variants.{Request, Arbitrate, Release, Malformed}
 
 abbrev pub isDigit : ℕ → Bool
 isDigit b = leb 48 b && leb b 57

@@ -4,8 +4,8 @@ use mathlib.Core.Bool.{Bool, false, cond}
 use mathlib.Core.List.{List, [], _++_}
 use mathlib.Core.Path.{_≡_}
 use lib.ListN.{length, getD, drop}
-use Rattle.rack.specs.declared.Outcome.{Outcome}
-use Rattle.rack.specs.declared.RackState.{RackState}
+use Rattle.arbiter.specs.declared.Outcome.{Outcome}
+use Rattle.arbiter.specs.declared.RackState.{RackState}
 use Rattle.trace.specs.Line.{lineOf, isMalformed, lineOutcome, lineText}
 use Rattle.trace.specs.declared.Line.{Line}
 use Rattle.trace.specs.declared.Ran.{Ran}

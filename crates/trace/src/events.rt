@@ -1,14 +1,15 @@
 // A line of the trace, answered.
 ghost use mathlib.Core.Path.{_≡_};
-ghost use Rattle.rack.specs.Lent.{marks, stateOf, tableOf, quietReply, Leaves};
-ghost use Rattle.rack.specs.State.{wellFormed};
+ghost use Rattle.arbiter.specs.Lent.{stateOf, tableOf, quietReply, Leaves};
+ghost use Rattle.arbiter.specs.State.{wellFormed};
+ghost use Rattle.contest.specs.Marks.{marks};
 ghost use Rattle.trace.specs.Line.{lineOutcome};
 use super::Line;
-use rack::Hold;
-use rack::Reply;
-use rack::lent::arbitrate_in;
-use rack::lent::release_in;
-use rack::lent::request_in;
+use arbiter::Hold;
+use arbiter::Reply;
+use arbiter::arbitrate_in;
+use arbiter::release_in;
+use arbiter::request_in;
 
 // A line that is refused as it stands.
 fn malformed(hold: Hold) -> Reply

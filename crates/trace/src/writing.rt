@@ -8,7 +8,7 @@ ghost use Rattle.trace.specs.Listing.{textIn};
 use super::Line;
 use super::reading::is_malformed;
 use super::text;
-use rack::Reply;
+use arbiter::Reply;
 
 // A number's last digit, as a character.
 pub(crate) fn last_digit(x: u16) -> u8

@@ -1,8 +1,8 @@
 -- `rack::arbitrate` meets its contract: the outcome is made again from what the event on lent marks leaves. Assumes nothing.
 use mathlib.Core.Path.{_∙_}
 use borrow.Author.Needs.{needs}
-use Rattle.rack.proofs.Leaving.{table-kept, arbitrated-table, outcome-again}
-use Rattle.rack.proofs.Refusals.{told-truth}
+use Rattle.arbiter.proofs.Leaving.{table-kept, arbitrated-table, outcome-again}
+use Rattle.arbiter.proofs.Refusals.{told-truth}
 use Rattle.rack.proofs.arbitrate.Statement.{statement}
 use Rattle.rack.proofs.arbitrate.Tie as tie
 

@@ -7,8 +7,9 @@ use mathlib.Core.Path.{_≡_, refl, sym, _∙_}
 use lib.ListN.{length}
 use borrow.Author.Needs.{needs}
 use denote.Ref.{now}
-use Rattle.rack.specs.Lent.{Marks, marks, stateOf}
-use Rattle.rack.specs.State.{wellFormed}
+use Rattle.arbiter.specs.Lent.{stateOf}
+use Rattle.arbiter.specs.State.{wellFormed}
+use Rattle.contest.specs.Marks.{Marks, marks}
 use Rattle.trace.proofs.Laws.{Going, going-none, all-gone, formed-still, one-further, at-end}
 use Rattle.trace.proofs.run.Statement.{statement}
 use Rattle.trace.proofs.run.Tie as tie

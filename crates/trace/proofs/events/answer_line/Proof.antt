@@ -1,9 +1,10 @@
 -- `trace::events::answer_line` meets its contract: by the line, told the truth about the state. Assumes nothing.
 use borrow.Author.Needs.{needs}
-use Rattle.rack.proofs.Leaving.{leaves-answered}
-use Rattle.rack.proofs.Refusals.{told-truth}
-use Rattle.rack.specs.Lent.{marks, stateOf, tableOf}
-use Rattle.rack.specs.declared.RackState.{RackState}
+use Rattle.arbiter.proofs.Leaving.{leaves-answered}
+use Rattle.arbiter.proofs.Refusals.{told-truth}
+use Rattle.arbiter.specs.Lent.{stateOf, tableOf}
+use Rattle.arbiter.specs.declared.RackState.{RackState}
+use Rattle.contest.specs.Marks.{marks}
 use Rattle.trace.proofs.events.answer_line.Statement.{statement}
 use Rattle.trace.proofs.events.answer_line.Tie as tie
 use Rattle.trace.specs.Line.{lineOutcome}

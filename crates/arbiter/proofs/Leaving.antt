@@ -1,0 +1,64 @@
+-- How an event on lent marks leaves them, where it is refused and where it is done. Assumes nothing.
+use Prim.Native.Nat.{ℕ, _^_, _%_}
+use mathlib.Core.Bool.{Bool, true, false, cond}
+use mathlib.Core.Logic.{_≢_}
+use mathlib.Core.Path.{_≡_, refl}
+use lib.Dec.{eqb}
+use borrow.Author.Tests.{eq-eqb, ne-eqb}
+use Rattle.arbiter.specs.Arbitrate.{settlingOf, winnerOf, someLoserFull, granted, grantTo, wonBy, arbitrated}
+use Rattle.arbiter.specs.Events.{answered, answeredBy}
+use Rattle.arbiter.specs.Lent.{stateOf, quietReply, outcomeFrom, Leaves}
+use Rattle.arbiter.specs.declared.Hold.{Hold}
+use Rattle.arbiter.specs.declared.Outcome.{Outcome}
+use Rattle.arbiter.specs.declared.RackState.{RackState}
+use Rattle.arbiter.specs.declared.Reply.{Reply}
+use Rattle.cards.specs.declared.Table.{Table}
+use Rattle.contest.specs.Marks.{Marks}
+use Rattle.lines.specs.declared.Settled.{Settled}
+
+module _ (table : Table) (m : Marks) (hold : Hold) where
+  -- a refusal returns the state given, and winner, lines and stages 0
+  pub leaves-answered : (n : ℕ) → Leaves (answered (stateOf table m hold) n) (quietReply hold n) m
+  leaves-answered n = record { reply = refl; marks-left = refl }
+
+  pub leaves-refused : (n : ℕ) (done : Outcome) → n ≢ 0 → Leaves (answeredBy n (stateOf table m hold) done) (quietReply hold n) m
+  unfolding answeredBy
+  leaves-refused n done some = rw (ne-eqb n 0 some) (leaves-answered n)
+
+pub leaves-done : (n : ℕ) (s : RackState) (done : Outcome) {r : Reply} {m : Marks} → n ≡ 0 → Leaves done r m → Leaves (answeredBy n s done) r m
+unfolding answeredBy
+leaves-done n s done none left = rw (eq-eqb n 0 none) left
+
+-- ---- the outcome again, from what an event leaves: no event changes the table
+
+either : (t : Table) (b : Bool) (x y : Outcome) → x .state .table ≡ t → y .state .table ≡ t → cond b x y .state .table ≡ t
+either t true x y p q = p
+either t false x y p q = q
+
+pub table-kept : (n : ℕ) (s : RackState) (done : Outcome) → done .state .table ≡ s .table → answeredBy n s done .state .table ≡ s .table
+unfolding answeredBy
+table-kept n s done same = either (s .table) (eqb n 0) done (answered s n) same refl
+
+pub arbitrated-table : (s : RackState) → arbitrated s .state .table ≡ s .table
+unfolding arbitrated wonBy granted
+arbitrated-table s =
+    either (s .table) (eqb (settlingOf s .answer) 0) (wonBy s (winnerOf s) (settlingOf s)) (answered s 17)
+    (either (s .table) (someLoserFull s (winnerOf s)) (answered s 16) (grantTo s (winnerOf s) (settlingOf s)) refl refl) refl
+
+pub state-again : (o : Outcome) (table : Table) (r : Reply) (m : Marks)
+    → o .state .table ≡ table → Leaves o r m → stateOf table m (r .hold) ≡ o .state
+state-again o table r m same left = rw (← same, left .reply, left .marks-left)
+
+pub outcome-again : (o : Outcome) (table : Table) (r : Reply) (m : Marks) → o .state .table ≡ table → Leaves o r m → outcomeFrom table m r ≡ o
+outcome-again o table r m same left = rw (← same, left .reply, left .marks-left)
+
+-- an arbitration, by what its settling answers
+module _ (table : Table) (m : Marks) (hold : Hold) (t : Settled) (is : t ≡ settlingOf (stateOf table m hold)) where
+  pub leaves-unsettled : t .answer ≢ 0 → Leaves (arbitrated (stateOf table m hold)) (quietReply hold 17) m
+  unfolding arbitrated
+  leaves-unsettled some = rw (← is, ne-eqb (t .answer) 0 some) (leaves-answered table m hold 17)
+
+  pub leaves-settled : t .answer ≡ 0 → {r : Reply} {m′ : Marks}
+      → Leaves (wonBy (stateOf table m hold) (t .lines % 2 ^ table .k) t) r m′ → Leaves (arbitrated (stateOf table m hold)) r m′
+  unfolding arbitrated
+  leaves-settled none left = rw (← is, eq-eqb (t .answer) 0 none) left

@@ -1,0 +1,161 @@
+// The arbiter: a state, and its events on marks that the caller lends. A run over many events keeps its marks in one place and finds out once whether
+// the state is well formed, since events keep it so. Each event is told that, and refuses with 17 where it is told no.
+ghost use mathlib.Core.Path.{_≡_};
+ghost use Rattle.arbiter.specs.Lent.{stateOf, Requests, Releases, Arbitrates};
+ghost use Rattle.contest.specs.Marks.{marks};
+use answers::quiet;
+use answers::refusal_by;
+use arbitration::arbitrated_in;
+use cards::Table;
+use contest::some_marked;
+use marks::is_closed;
+use marks::is_holder;
+use marks::waits_at;
+use sets::inhibit;
+
+mod answers;
+mod arbitration;
+mod marks;
+mod sets;
+
+// The bus is free, or held by the card of that number.
+pub enum Bus {
+    Free,
+    Held(u8),
+}
+
+// The state: the table, who waits, the waiting counts, the batch (rule 3), who is inhibited (rule 4), the last winner (0 for none yet), and the bus.
+// Arrays go by arbitration number.
+pub struct RackState {
+    pub table: Table,
+    pub waiting: [bool; 64],
+    pub counts: [u8; 64],
+    pub batch: [bool; 64],
+    pub inhibited: [bool; 64],
+    pub last: u8,
+    pub bus: Bus,
+}
+
+// The last winner and the bus: what is left of a state beside its table and its marks.
+pub struct Hold {
+    pub last: u8,
+    pub bus: Bus,
+}
+
+// What an event on lent marks gives: an outcome without the table and the marks.
+pub struct Reply {
+    pub hold: Hold,
+    pub answer: u8,
+    pub winner: u8,
+    pub lines: u16,
+    pub stages: u8,
+}
+
+// What an event gives: the next state, the answer, and of a grant the winner, the settled lines and the stages.
+pub struct Outcome {
+    pub state: RackState,
+    pub answer: u8,
+    pub winner: u8,
+    pub lines: u16,
+    pub stages: u8,
+}
+
+// The state of these parts.
+pub fn state_of(
+    table: Table,
+    waiting: [bool; 64],
+    counts: [u8; 64],
+    batch: [bool; 64],
+    inhibited: [bool; 64],
+    hold: Hold,
+) -> RackState
+    ensures { λ r. ⌜ r ≡ stateOf table (marks waiting counts batch inhibited) hold ⌝ }
+{
+    let bus = hold.bus;
+    RackState {
+        table,
+        waiting,
+        counts,
+        batch,
+        inhibited,
+        last: hold.last,
+        bus,
+    }
+}
+
+// A card begins to wait, with count 0: 17, 11 and 12, or 0.
+pub fn request_in(
+    formed: bool,
+    slots: &[u8; 64],
+    waiting: &mut [bool; 64],
+    counts: &mut [u8; 64],
+    hold: Hold,
+    a: u8,
+) -> Reply
+    ensures { λ r. ⌜ Requests formed (now (slots .entry)) (now (waiting .entry)) (now (counts .entry)) hold a r
+        (now (waiting .exit)) (now (counts .exit)) ⌝ }
+{
+    let known = cards::in_table(slots, a);
+    let waits = waits_at(waiting, a);
+    let refusal = refusal_by(formed, !known, 11, waits, 12);
+    if refusal != 0 {
+        return quiet(hold, refusal);
+    }
+    let i = a as usize;
+    waiting[i] = true;
+    counts[i] = 0;
+    quiet(hold, 0)
+}
+
+// The holder lets the bus go, and the last winner stays; under rule 4 the holder is inhibited: 17, 11 and 15, or 0.
+pub fn release_in(
+    formed: bool,
+    rule: u8,
+    slots: &[u8; 64],
+    inhibited: &mut [bool; 64],
+    hold: Hold,
+    a: u8,
+) -> Reply
+    ensures { λ r. ⌜ Releases formed rule (now (slots .entry)) (now (inhibited .entry)) hold a r (now (inhibited .exit)) ⌝ }
+{
+    let bus = hold.bus;
+    let known = cards::in_table(slots, a);
+    let holds = is_holder(bus, a);
+    let refusal = refusal_by(formed, !known, 11, !holds, 15);
+    if refusal != 0 {
+        return quiet(hold, refusal);
+    }
+    inhibit(rule, inhibited, a);
+    quiet(
+        Hold {
+            last: hold.last,
+            bus: Bus::Free,
+        },
+        0,
+    )
+}
+
+// The competing cards settle, and the winner holds the bus: 17, 13, 14 and 16, or 0.
+pub fn arbitrate_in(
+    formed: bool,
+    k: u8,
+    rule: u8,
+    waiting: &mut [bool; 64],
+    counts: &mut [u8; 64],
+    batch: &mut [bool; 64],
+    inhibited: &mut [bool; 64],
+    hold: Hold,
+) -> Reply
+    ensures { λ r. ⌜ Arbitrates formed k rule
+        (marks (now (waiting .entry)) (now (counts .entry)) (now (batch .entry)) (now (inhibited .entry))) hold r
+        (marks (now (waiting .exit)) (now (counts .exit)) (now (batch .exit)) (now (inhibited .exit))) ⌝ }
+{
+    let bus = hold.bus;
+    let closed = is_closed(bus);
+    let some = some_marked(waiting);
+    let refusal = refusal_by(formed & (k <= 6), closed, 13, !some, 14);
+    if refusal != 0 {
+        return quiet(hold, refusal);
+    }
+    arbitrated_in(hold, k, rule, waiting, counts, batch, inhibited)
+}

@@ -1,0 +1,73 @@
+// The contest for the bus: who goes first, what each card shows the lines by the rule, and how they settle.
+// What is called for each card takes the numbers that it reads, and not the state, which would be copied each time.
+ghost use Prim.Native.Nat.{_≤_};
+ghost use mathlib.Core.Path.{_≡_};
+ghost use Rattle.cards.specs.Below.{anyBelow};
+ghost use Rattle.contest.specs.Marks.{isIn, marks};
+ghost use Rattle.contest.specs.Rules.{spanOf};
+ghost use Rattle.contest.specs.Shown.{firstAt, shownSettling};
+use lines::Settled;
+use offers::goes_first;
+use offers::lines_of;
+use offers::numbers_of;
+
+mod offers;
+
+// Two to the number width; 1 for a width that no table has, so that a caller need not have checked it.
+pub fn span(k: u8) -> u16
+    ensures { λ r. ⌜ (r ≡ spanOf k) × ((1 ≤ r) × (r ≤ 64)) ⌝ }
+{
+    (cards::top_number(k) as u16) + 1
+}
+
+// Whether some card is marked.
+pub fn some_marked(cards: &[bool; 64]) -> bool
+    ensures { λ r. ⌜ r ≡ anyBelow 64 (isIn (now (cards .entry))) ⌝ }
+{
+    let mut some = false;
+    for a in 0..64usize {
+        some = some | cards[a];
+    }
+    some
+}
+
+// Whether some card waits that goes first. Under the rules that have no set all go first, and the caller has just asked whether some card waits.
+pub fn some_first(
+    rule: u8,
+    waiting: &[bool; 64],
+    batch: &[bool; 64],
+    inhibited: &[bool; 64],
+) -> bool
+    ensures { λ r. ⌜ r ≡ anyBelow 64 (firstAt rule (now (waiting .entry)) (now (batch .entry)) (now (inhibited .entry))) ⌝ }
+{
+    let batches = rule == 3;
+    let inhibits = rule == 4;
+    if !(batches | inhibits) {
+        return some_marked(waiting);
+    }
+    let mut some = false;
+    for a in 0..64usize {
+        some = some | (waiting[a] & goes_first(batches, inhibits, batch[a], inhibited[a]));
+    }
+    some
+}
+
+// The settling of what each card shows the lines. A width that no table has is refused with 21, since it has no lines.
+pub fn settling_of(
+    k: u8,
+    rule: u8,
+    last: u8,
+    anew: bool,
+    waiting: &[bool; 64],
+    counts: &[u8; 64],
+    batch: &[bool; 64],
+    inhibited: &[bool; 64],
+) -> Settled
+    ensures { λ r. ⌜ r ≡ shownSettling k rule last anew
+        (marks (now (waiting .entry)) (now (counts .entry)) (now (batch .entry)) (now (inhibited .entry))) ⌝ }
+{
+    let m = lines_of(k, rule);
+    let numbers = numbers_of(rule, span(k), last, waiting, counts, anew, batch, inhibited);
+    let mut stages = [0u16; 13];
+    lines::settle(m, &numbers, &mut stages)
+}
