@@ -7,7 +7,7 @@ run: target/bin/racktrace target/tools/racklap
 	@cd examples/three-cards && ../../target/bin/racktrace <trace | ../../target/tools/racklap why 3 rack.tab
 
 # The proved programs; rt proves again only what has changed.
-target/bin/racktrace target/bin/rackstate: crates.txt $(shell find crates -type f)
+target/bin/racktrace target/bin/rackstate target/bin/rackreport: crates.txt $(shell find crates -type f)
 	rt check $(@F)
 	@touch $@
 
@@ -26,7 +26,7 @@ bench: target/bin/racktrace target/staticlib/liblaptop.a
 	bench/stack
 
 # N times the numbers of the gate, with fresh seeds.
-soak: target/bin/racktrace target/bin/rackstate target/staticlib/liblaptop.a
+soak: target/bin/racktrace target/bin/rackstate target/bin/rackreport target/staticlib/liblaptop.a
 	compare/soak $(N)
 
 # All rows of the published tables.

@@ -9,5 +9,6 @@ int explain_command(struct words words);
 int table_command(struct words words);
 int settle_command(struct words words);
 int why_command(struct words words);
+int report_command(struct words words);
 
 #endif

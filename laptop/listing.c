@@ -3,6 +3,7 @@
 #include <stdlib.h>
 #include <string.h>
 
+#include "fields.h"
 #include "numbers.h"
 #include "say.h"
 
@@ -19,31 +20,6 @@ enum {
     STAGES_AT = 16,
 };
 
-static bool is_digit(char c)
-{
-    return c >= '0' && c <= '9';
-}
-
-static bool has_shape(const char *line)
-{
-    for (size_t i = 0; i < LINE_BYTES; i++) {
-        bool fits = shape[i] == '0' ? is_digit(line[i]) : shape[i] == '.' || shape[i] == line[i];
-        if (!fits) {
-            return false;
-        }
-    }
-    return true;
-}
-
-static unsigned number_at(const char *line, size_t at)
-{
-    unsigned value = 0;
-    for (; is_digit(line[at]); at++) {
-        value = 10 * value + (unsigned)(line[at] - '0');
-    }
-    return value;
-}
-
 static bool reports_nothing(const char *line)
 {
     return number_at(line, WINNER_AT) == 0 && number_at(line, SETTLED_AT) == 0 &&
@@ -53,7 +29,7 @@ static bool reports_nothing(const char *line)
 /* The refusal of a line that ends a listing, or 0 if it is not such a line. */
 static unsigned ending(const char *line)
 {
-    unsigned answer = number_at(line, ANSWER_AT);
+    unsigned answer = (unsigned)number_at(line, ANSWER_AT);
     bool table = memcmp(line + EVENT_AT, "tab.", EVENT_BYTES) == 0 && answer >= 1 && answer <= 7;
     bool trace = memcmp(line + EVENT_AT, "----", EVENT_BYTES) == 0 && answer == 18;
     return (table || trace) && reports_nothing(line) ? answer : 0;
@@ -92,7 +68,7 @@ static void append(struct listing *listing, size_t *room, struct event event)
 static bool take_line(struct listing *listing, size_t *room, const char *line)
 {
     struct event event;
-    if (!has_shape(line) || listing->refusal != 0) {
+    if (!has_shape(line, shape, LINE_BYTES) || listing->refusal != 0) {
         return false;
     }
     if (read_event(line, &event)) {

@@ -11,7 +11,7 @@ static const struct {
     int (*run)(struct words words);
 } commands[] = {
     {"check", check_command},   {"explain", explain_command}, {"table", table_command},
-    {"settle", settle_command}, {"why", why_command},
+    {"settle", settle_command}, {"why", why_command},         {"report", report_command},
 };
 
 static int run_command(const char *name, struct words words)
@@ -31,7 +31,7 @@ int main(int argc, char **argv)
     if (take_flag(&words, "--help")) {
         print_help();
     } else if (argc < 2) {
-        wrong_usage("usage: racklap check|explain|table|settle|why ..");
+        wrong_usage("usage: racklap check|explain|table|settle|why|report ..");
     } else {
         words.count--;
         words.word++;

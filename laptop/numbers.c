@@ -68,6 +68,15 @@ static const struct screen_number screen_numbers[] = {
     {24, "stage buffer under m+1 entries",
      "The program that settles lends too little memory: tell its maker that m lines need m + 1 "
      "entries of two bytes."},
+    {31, "65,535 or more done events are already counted",
+     "The report holds for the first 65,535 done events and says nothing of what came later. To "
+     "see that too, report on shorter traces, each from the start of the rack."},
+    {41,
+     "as given, a count, sum, running wait or entry exceeds the events counted, a sum of squares "
+     "exceeds their square, or a variance would be negative",
+     "The figures that were handed in are damaged: a count that began at zero never gets there. "
+     "Begin again with a zero tally and a zero square. If the number comes back, the memory that "
+     "keeps them is the place to look."},
 };
 
 const struct screen_number *screen_number(uint32_t number)

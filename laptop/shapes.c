@@ -33,3 +33,11 @@ void draw_words(FILE *file, const char *class, double x, double y, const char *w
     fputs(words, file);
     close_text(file);
 }
+
+void draw_upright(FILE *file, const char *class, double x, double y, const char *words)
+{
+    fprintf(file, "<text class='%s' x='%.1f' y='%.1f' transform='rotate(-90 %.1f %.1f)'>", class, x,
+            y, x, y);
+    fputs(words, file);
+    close_text(file);
+}

@@ -1,13 +1,16 @@
 //! An independent reading of the rack's rules, and the means to hold the product against it.
 //!
-//! The reference is `settling`, `intervals`, `rules`, `table`, `rack`, `listing`, `waiting`, `seen_from_c` and `seen_as_bytes`.
-//! The product is reached through `entries`, `racktrace` and `rackstate` alone.
+//! The reference is `settling`, `intervals`, `rules`, `table`, `rack`, `listing`, `waiting`, `figures`, `waiting_report`, `seen_from_c` and
+//! `seen_as_bytes`. The product is reached through `entries`, `racktrace`, `rackreport` and `rackstate` alone.
 
 pub mod entries;
+pub mod figures;
+pub mod folder;
 pub mod intervals;
 pub mod judge;
 pub mod listing;
 pub mod rack;
+pub mod rackreport;
 pub mod rackstate;
 pub mod racktrace;
 pub mod report;
@@ -20,3 +23,4 @@ pub mod settling;
 pub mod slowest;
 pub mod table;
 pub mod waiting;
+pub mod waiting_report;

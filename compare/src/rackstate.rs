@@ -8,7 +8,7 @@ use std::rc::Rc;
 const PROGRAM: &str = "target/bin/rackstate";
 
 fn start() -> Result<Running, String> {
-    Running::start(PROGRAM, Path::new("."))
+    Running::start(PROGRAM, &[], Path::new("."))
 }
 
 /// A running `rackstate` that several kinds of cases share. It starts when first asked.

@@ -13,9 +13,10 @@ use std::time::{Duration, Instant};
 const TIME_FOR_AN_ANSWER: Duration = Duration::from_secs(10);
 const TIME_FOR_A_RUN: Duration = Duration::from_secs(30);
 
-fn launch(program: &str, folder: &Path) -> Result<Child, String> {
+fn launch(program: &str, arguments: &[&str], folder: &Path) -> Result<Child, String> {
     let path = fs::canonicalize(program).map_err(|error| format!("{program}: {error}"))?;
     Command::new(path)
+        .args(arguments)
         .current_dir(folder)
         .stdin(Stdio::piped())
         .stdout(Stdio::piped())
@@ -45,8 +46,8 @@ pub struct Running {
 }
 
 impl Running {
-    pub fn start(program: &str, folder: &Path) -> Result<Running, String> {
-        let mut child = launch(program, folder)?;
+    pub fn start(program: &str, arguments: &[&str], folder: &Path) -> Result<Running, String> {
+        let mut child = launch(program, arguments, folder)?;
         let output = listen(child.stdout.take().expect("the output is piped"));
         Ok(Running {
             input: child.stdin.take(),

@@ -1,7 +1,9 @@
-/* A random rack and a random trace: rackgen SEED rack.tab trace. Prints the slots of the cards.
+/* A random rack and a random trace: rackgen SEED rack.tab trace [full]. Prints the slots of the
+ * cards. A full rack has 63 of them, and a longer trace.
  *
  * The generator does not know who wins, so it releases by sweeping over all cards: all but the
  * holder's release are refused, which a listing shows too. */
+#include <stdbool.h>
 #include <stdint.h>
 #include <stdio.h>
 #include <stdlib.h>
@@ -41,6 +43,14 @@ static struct rack random_rack(void)
     unsigned most = (1u << rack.k) - 1;
     rack.cards = 1 + below(below(4) != 0 && most > 8 ? 8 : most);
     draw(rack.number, rack.cards, most);
+    draw(rack.slot, rack.cards, 63);
+    return rack;
+}
+
+static struct rack full_rack(void)
+{
+    struct rack rack = {.k = 6, .rule = below(5), .cards = 63};
+    draw(rack.number, rack.cards, 63);
     draw(rack.slot, rack.cards, 63);
     return rack;
 }
@@ -88,17 +98,18 @@ static FILE *opened(const char *name)
 
 int main(int argc, char **argv)
 {
-    if (argc != 4) {
-        fprintf(stderr, "usage: rackgen SEED rack.tab trace\n");
+    if (argc != 4 && argc != 5) {
+        fprintf(stderr, "usage: rackgen SEED rack.tab trace [full]\n");
         return 2;
     }
     state = strtoull(argv[1], NULL, 10) * 0x9e3779b97f4a7c15u | 1;
-    struct rack rack = random_rack();
+    bool full = argc == 5;
+    struct rack rack = full ? full_rack() : random_rack();
     FILE *table = opened(argv[2]);
     write_table(&rack, table);
     fclose(table);
     FILE *trace = opened(argv[3]);
-    for (unsigned events = below(200); events > 0; events--) {
+    for (unsigned events = full ? 3000 : below(200); events > 0; events--) {
         write_event(&rack, trace);
     }
     if (below(4) == 0) {

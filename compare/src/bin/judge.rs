@@ -6,8 +6,8 @@ use compare::judge::{bounds, groups, Sizes};
 use compare::report::Report;
 use std::process::ExitCode;
 
-const USAGE: &str = "judge [--settlings N] [--tables N] [--traces N] [--states N]
-      [--times N] [--seed S]
+const USAGE: &str = "judge [--settlings N] [--tables N] [--traces N] [--reports N]
+      [--states N] [--times N] [--seed S]
 judge --case KIND SEED";
 
 struct Options {
@@ -27,6 +27,7 @@ fn options(mut words: impl Iterator<Item = String>) -> Result<Options, String> {
             settlings: 200_000,
             tables: 100_000,
             traces: 5_000,
+            reports: 2_000,
             states: 50_000,
         },
         seed: 1,
@@ -39,6 +40,7 @@ fn options(mut words: impl Iterator<Item = String>) -> Result<Options, String> {
             "--settlings" => options.sizes.settlings = number(&mut words)?,
             "--tables" => options.sizes.tables = number(&mut words)?,
             "--traces" => options.sizes.traces = number(&mut words)?,
+            "--reports" => options.sizes.reports = number(&mut words)?,
             "--states" => options.sizes.states = number(&mut words)?,
             "--seed" => options.seed = number(&mut words)?,
             "--case" => {

@@ -1,5 +1,6 @@
 //! The product held against the reference, on named cases and on generated ones.
 
+pub mod accepted_requests;
 pub mod asked;
 pub mod boundaries;
 pub mod conversation;
@@ -11,9 +12,11 @@ pub mod grants_during_waits;
 pub mod guarded;
 pub mod kind;
 pub mod met;
+pub mod named_reports;
 pub mod named_settlings;
 pub mod named_tables;
 pub mod named_traces;
+pub mod reports;
 pub mod settlings;
 pub mod small_racks;
 pub mod stage_bounds;
@@ -34,6 +37,7 @@ pub struct Sizes {
     pub settlings: u64,
     pub tables: u64,
     pub traces: u64,
+    pub reports: u64,
     pub states: u64,
 }
 
@@ -43,6 +47,7 @@ impl Sizes {
             settlings: self.settlings * times,
             tables: self.tables * times,
             traces: self.traces * times,
+            reports: self.reports * times,
             states: self.states * times,
         }
     }
@@ -64,6 +69,7 @@ pub fn groups(sizes: &Sizes) -> Vec<Group> {
         Group::once("known settlings", named_settlings::kinds()),
         Group::once("known tables", named_tables::kinds(&program)),
         Group::once("known traces", named_traces::kinds()),
+        Group::once("known reports", named_reports::kinds()),
         Group::once("well-formed states", well_formed::kinds(&program)),
         Group::once("exhaustive", exhaustive::kinds()),
         Group::once("small racks", small_racks::kinds()),
@@ -75,6 +81,7 @@ pub fn groups(sizes: &Sizes) -> Vec<Group> {
             sizes.traces.div_ceil(5),
             grants_during_waits::kinds(),
         ),
+        Group::of("reports", sizes.reports, reports::kinds()),
         Group::of("states", sizes.states, states::kinds(&program)),
     ]
 }

@@ -1,8 +1,9 @@
 //! A rack of three cards in every state that it reaches, and there every event.
 
 use super::kind::Kind;
+use super::met::Met;
 use super::named_tables::file_with;
-use super::traces::hold;
+use super::{reports, traces};
 use crate::listing::event;
 use crate::rack::Rack;
 use crate::rules::GREATEST_RULE;
@@ -87,14 +88,21 @@ impl World {
     }
 }
 
+type Hold = fn(Option<&[u8]>, &[u8], &mut Met) -> Result<(), String>;
+
+/// What is held on the tours, with what the names of its tests begin with.
+const HELD: [(&str, Hold); 2] = [("", traces::hold), ("report-of-", reports::hold)];
+
+fn every_state(rule: u8, what: &str, hold: Hold) -> Kind {
+    let name = format!("{what}every-state-of-3-cards-rule-{rule}");
+    Kind::named(name, move |met| {
+        let file = file_with(2, rule, &[(1, 1), (2, 2), (3, 3)]);
+        let mut tours = World::of(&file).tours().into_iter();
+        tours.try_for_each(|trace| hold(Some(&file), &trace, met))
+    })
+}
+
 pub fn kinds() -> Vec<Kind> {
-    (0..=GREATEST_RULE)
-        .map(|rule| {
-            Kind::named(format!("every-state-of-3-cards-rule-{rule}"), move |met| {
-                let file = file_with(2, rule, &[(1, 1), (2, 2), (3, 3)]);
-                let mut tours = World::of(&file).tours().into_iter();
-                tours.try_for_each(|trace| hold(Some(&file), &trace, met))
-            })
-        })
-        .collect()
+    let both = |rule| HELD.map(|(what, hold)| every_state(rule, what, hold));
+    (0..=GREATEST_RULE).flat_map(both).collect()
 }

@@ -28,6 +28,7 @@ pub struct Maker {
     trace: Vec<u8>,
     /// How often a batch was formed or the inhibitions were cleared.
     renewals: u64,
+    done: usize,
 }
 
 impl Maker {
@@ -38,6 +39,7 @@ impl Maker {
             rack,
             trace: Vec::new(),
             renewals: 0,
+            done: 0,
         }
     }
 
@@ -49,6 +51,10 @@ impl Maker {
         self.trace.len() / 5
     }
 
+    pub fn done_events(&self) -> usize {
+        self.done
+    }
+
     pub fn push(&mut self, letter: char, number: u8) {
         let line = format!("{letter} {number:02}\n");
         self.trace.extend(line.as_bytes());
@@ -56,6 +62,7 @@ impl Maker {
         if let Ok((next, _)) = self.rack.after(event) {
             let renewed = event == Event::Arbitrate && self.rack.is_to_be_renewed();
             self.renewals += u64::from(renewed);
+            self.done += 1;
             self.rack = next;
         }
     }

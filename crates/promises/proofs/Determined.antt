@@ -2,9 +2,9 @@
 -- lent. Each contract stands here as the source has it, after `ensures`. Assumes nothing.
 use Prim.Native.Nat.{ℕ, suc, _^_, _≤_, _<_}
 use mathlib.Core.Bool.{Bool}
-use mathlib.Core.List.{List, []}
+use mathlib.Core.List.{List, [], _++_}
 use mathlib.Core.Path.{_≡_, sym, ap, _∙_}
-use lib.ListN.{length, replicate}
+use lib.ListN.{length, replicate, drop}
 use Rattle.arbiter.specs.Arbitrate.{arbitrateOf, eventOf}
 use Rattle.arbiter.specs.Events.{requestOf, releaseOf}
 use Rattle.arbiter.specs.Lent.{stateOf, Leaves, Requests, Releases, Arbitrates}
@@ -25,6 +25,12 @@ use Rattle.laptop.specs.Table.{GivesTable}
 use Rattle.lines.specs.Settle.{Settles, refusal}
 use Rattle.lines.specs.Settling.{applied}
 use Rattle.rack.specs.Files.{loadOf, saveOf, saveAfter}
+use Rattle.report.specs.Report.{reportOf}
+use Rattle.report.specs.Text.{openingText, cardText, rowText}
+use Rattle.report.specs.declared.CardLine.{CardLine}
+use Rattle.tally.specs.Room.{squareFor}
+use Rattle.tally.specs.Tally.{Square, tallyGood, countedOf, talliedOf}
+use Rattle.tally.specs.declared.Tally.{Tally}
 use Rattle.trace.specs.Line.{lineOf, textOf}
 use Rattle.trace.specs.Listing.{Lists}
 
@@ -155,6 +161,37 @@ text-determined a b c d answer winner lines stages x y = one-result
 
 pub run-determined : (s : RackState) (trace buffer : List ℕ) → DeterminedLeft (Lists s trace buffer)
 run-determined s trace buffer x y b c p q = one-result-left (p .result, p .left) (q .result, q .left)
+
+-- ---- tally
+
+pub tally-good-determined : (t : Tally) (q : Square) → Determined (λ r. r ≡ tallyGood t q)
+tally-good-determined t q x y = one-result
+
+pub event-counted-determined : (t : Tally) (q : Square) (s : RackState) (letter a : ℕ) → Determined (λ r. r ≡ countedOf t q s letter a)
+event-counted-determined t q s letter a x y = one-result
+
+pub square-counted-determined : (n : ℕ) (q : Square) (o : Outcome) → Determined (λ r. r ≡ squareFor n q o)
+square-counted-determined n q o x y = one-result
+
+pub event-tallied-determined : (t : Tally) (q : Square) (s : RackState) (letter a : ℕ)
+    → DeterminedLeft (λ r left. (r ≡ talliedOf t q s letter a) × (left ≡ countedOf t q s letter a .tally))
+event-tallied-determined t q s letter a x y b c = one-result-left
+
+-- ---- report
+
+pub waiting-report-determined : (t : Tally) (q : Square) → Determined (λ r. r ≡ reportOf t q)
+waiting-report-determined t q x y = one-result
+
+pub opening-determined : (a b c d answer events : ℕ) → Determined (λ r. r ≡ openingText a b c d answer events)
+opening-determined a b c d answer events x y = one-result
+
+pub card-text-determined : (slot number : ℕ) (card : CardLine) → Determined (λ r. r ≡ cardText slot number card)
+card-text-determined slot number card x y = one-result
+
+pub row-text-determined : (number : ℕ) (slots row line : List ℕ)
+    → DeterminedLeft (λ r left. (r ≡ length (rowText number slots row))
+    × (left ≡ rowText number slots row ++ drop (length (rowText number slots row)) line))
+row-text-determined number slots row line x y b c = one-result-left
 
 -- ---- laptop
 

@@ -12,4 +12,5 @@ pub mod RoundTrip
 pub mod Settling
 pub mod Slowest
 pub mod Examples
+pub mod WaitingReport
 pub mod Determined

@@ -8,3 +8,4 @@ pub mod RoundTrip
 pub mod Listing
 pub mod KnownRules
 pub mod Settling
+pub mod WaitingReport

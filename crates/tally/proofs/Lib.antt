@@ -1,0 +1,9 @@
+pub mod Laws
+pub mod Long
+pub mod Effects
+pub mod Room
+pub mod Sums
+pub mod History
+pub mod Happenings
+pub mod Ledger
+pub mod Kept

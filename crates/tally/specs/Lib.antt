@@ -1,0 +1,4 @@
+pub mod Tally
+pub mod Room
+pub mod History
+pub mod Ledger
