@@ -9,6 +9,7 @@ enum { CARDS = 64, CHUNK = 1 << 16, LINE = 5, ROW = 19 };
 
 static uint8_t slots[CARDS], waiting[CARDS], counts[CARDS];
 static unsigned k, rule, last, held, holder, waiters;
+static uint16_t kept; /* what the lines settled to last; the next settling starts from it */
 
 struct outcome {
     unsigned answer, winner, lines, stages;
@@ -67,7 +68,7 @@ static struct outcome arbitrate(void)
 {
     if (held) return (struct outcome){13, 0, 0, 0};
     if (!waiters) return (struct outcome){14, 0, 0, 0};
-    uint16_t numbers[CARDS], lines = 0, next;
+    uint16_t numbers[CARDS], lines = kept, next;
     show_numbers(numbers);
     unsigned t = 0;
     while ((next = stage(numbers, lines)) != lines) {
@@ -80,6 +81,7 @@ static struct outcome arbitrate(void)
         for (int i = 0; i < CARDS; i++) counts[i] = (uint8_t)(counts[i] + waiting[i]);
         counts[winner] = 0;
     }
+    kept = lines;
     waiting[winner] = 0;
     waiters--;
     held = 1;

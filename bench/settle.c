@@ -10,7 +10,7 @@
 
 enum { MOST = 66, LISTS = 32, TURNS = 200, COMPARED = 20000 };
 
-typedef uint32_t settling(uint32_t m, const uint8_t *numbers, size_t numbers_len, uint8_t *stages, size_t stages_len);
+typedef uint32_t settling(uint32_t m, const uint8_t *numbers, size_t numbers_len, uint8_t *stages, size_t stages_len, uint32_t start);
 
 /* One stage: a bit is withdrawn below the highest line that carries 1 where the competitor has 0. */
 static uint16_t stage(const uint16_t *numbers, size_t count, uint16_t lines)
@@ -33,9 +33,9 @@ static void put(uint8_t *entry, uint16_t lines)
     entry[1] = (uint8_t)(lines >> 8);
 }
 
-static __attribute__((noinline)) uint32_t peer(uint32_t m, const uint8_t *numbers, size_t numbers_len, uint8_t *stages, size_t stages_len)
+static __attribute__((noinline)) uint32_t peer(uint32_t m, const uint8_t *numbers, size_t numbers_len, uint8_t *stages, size_t stages_len, uint32_t start)
 {
-    uint16_t list[64], joined = 0, lines = 0, next;
+    uint16_t list[64], joined = 0, lines = (uint16_t)start, next;
     size_t count = numbers_len / 2;
     if (m == 0 || m > 12) return 121;
     if (count > 64) return 122;
@@ -45,8 +45,9 @@ static __attribute__((noinline)) uint32_t peer(uint32_t m, const uint8_t *number
     }
     if (joined >> m) return 123;
     if (stages_len / 2 <= m) return 124;
+    if (start >> m) return 125;
     uint32_t t = 0;
-    put(stages, 0);
+    put(stages, lines);
     while ((next = stage(list, count, lines)) != lines) {
         lines = next;
         put(stages + 2 * ++t, lines);
@@ -69,7 +70,7 @@ static void fill(uint8_t *numbers, size_t count, uint32_t limit)
     for (size_t i = 0; i < count; i++) put(numbers + 2 * i, (uint16_t)random_below(limit));
 }
 
-/* Every third call may be refused: m from 0 to 13, up to 66 numbers, a number over the limit, a short buffer. */
+/* Every third call may be refused: m from 0 to 13, up to 66 numbers, a number or a start over the limit, a short buffer. */
 static int same_results(void)
 {
     uint8_t numbers[2 * MOST], ours[32], theirs[32];
@@ -77,10 +78,11 @@ static int same_results(void)
         int wild = i % 3 == 0;
         uint32_t m = wild ? random_below(14) : 1 + random_below(12);
         size_t count = random_below(wild ? MOST : 65), room = wild ? random_below(30) : 2 * m + 2;
+        uint32_t start = random_below((1u << m) << (wild && i % 4 == 0));
         fill(numbers, count, (1u << m) + (wild && i % 2));
         memset(ours, 0xa5, sizeof ours);
         memset(theirs, 0xa5, sizeof theirs);
-        if (rack_settle(m, numbers, 2 * count, ours, room) != peer(m, numbers, 2 * count, theirs, room)) return 0;
+        if (rack_settle(m, numbers, 2 * count, ours, room, start) != peer(m, numbers, 2 * count, theirs, room, start)) return 0;
         if (memcmp(ours, theirs, sizeof ours)) return 0;
     }
     return 1;
@@ -88,14 +90,14 @@ static int same_results(void)
 
 static uint8_t lists[LISTS][2 * MOST], stages[26];
 
-/* Nanoseconds of one settling, over all lists and turns. */
+/* Nanoseconds of one settling, over all lists and turns. Each list starts from 0, as it did before settling took a start, so that figures can be compared. */
 static double once(settling *settle, uint32_t m, size_t count)
 {
     struct timespec begun, ended;
     uint32_t sum = 0;
     clock_gettime(CLOCK_MONOTONIC, &begun);
     for (int turn = 0; turn < TURNS; turn++)
-        for (int list = 0; list < LISTS; list++) sum += settle(m, lists[list], 2 * count, stages, sizeof stages);
+        for (int list = 0; list < LISTS; list++) sum += settle(m, lists[list], 2 * count, stages, sizeof stages, 0);
     clock_gettime(CLOCK_MONOTONIC, &ended);
     __asm__ volatile("" ::"r"(sum));
     return ((double)(ended.tv_sec - begun.tv_sec) * 1e9 + (double)(ended.tv_nsec - begun.tv_nsec)) / (TURNS * LISTS);

@@ -12,7 +12,7 @@
 enum { STACK = 1 << 16, PAINT = 0xa5, MOST = 70 };
 
 /* `lines::settle` behind an entry that only hands on what it is lent; bench/stack has it built. */
-uint32_t settle_list(uint8_t m, const uint16_t *numbers, size_t numbers_len, uint16_t *stages, size_t stages_len);
+uint32_t settle_list(uint8_t m, const uint16_t *numbers, size_t numbers_len, uint16_t *stages, size_t stages_len, uint16_t start);
 
 static uint8_t painted[STACK] __attribute__((aligned(64)));
 static uint8_t *stood;
@@ -21,11 +21,14 @@ static ucontext_t caller, callee;
 struct settling {
     uint32_t m;
     size_t numbers, stages; /* in bytes */
+    uint16_t start;
 };
 
-/* Sizes that are settled, and each refusal: m, 22 for 65 numbers, 23 for numbers of 12 lines on 4, 24 for half an entry too few. */
+/* Sizes that are settled, from 0 and from all lines set, and each refusal: m, 22 for 65 numbers, 23 for numbers of 12 lines on 4, 24 for half an entry
+ * too few, 25 for a start of 13 lines. */
 static const struct settling cases[] = {
-    {12, 128, 26}, {12, 0, 26}, {1, 128, 4}, {0, 128, 26}, {13, 128, 26}, {255, 128, 26}, {12, 130, 26}, {4, 128, 26}, {12, 128, 25},
+    {12, 128, 26, 0}, {12, 0, 26, 0}, {1, 128, 4, 0}, {0, 128, 26, 0}, {13, 128, 26, 0}, {255, 128, 26, 0}, {12, 130, 26, 0}, {4, 128, 26, 0}, {12, 128, 25, 0},
+    {12, 128, 26, 4095}, {12, 0, 26, 4095}, {1, 128, 4, 1}, {12, 128, 26, 4096}, {12, 128, 26, 65535},
 };
 enum { CASES = sizeof cases / sizeof *cases, WIDE = 7 };
 
@@ -36,13 +39,13 @@ static volatile uint32_t answer;
 static void through_c(void)
 {
     stood = __builtin_frame_address(0);
-    answer = rack_settle(now.m, (uint8_t *)numbers, now.numbers, (uint8_t *)stages, now.stages);
+    answer = rack_settle(now.m, (uint8_t *)numbers, now.numbers, (uint8_t *)stages, now.stages, now.start);
 }
 
 static void on_a_list(void)
 {
     stood = __builtin_frame_address(0);
-    answer = settle_list((uint8_t)now.m, numbers, now.numbers / 2, stages, now.stages / 2);
+    answer = settle_list((uint8_t)now.m, numbers, now.numbers / 2, stages, now.stages / 2, now.start);
 }
 
 static size_t used_by(void (*work)(void))

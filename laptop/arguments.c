@@ -31,18 +31,23 @@ bool take_flag(struct words *words, const char *option)
     return there;
 }
 
-const char *take_value(struct words *words, const char *option)
+const char *take_value(struct words *words, const char *option, const char *what)
 {
     int place = place_of(words, option);
     if (place == words->count) {
         return NULL;
     }
     if (place + 1 == words->count) {
-        wrong_usage("%s wants the name of a file", option);
+        wrong_usage("%s wants %s", option, what);
     }
     const char *value = words->word[place + 1];
     remove_words(words, place, 2);
     return value;
+}
+
+const char *take_file(struct words *words, const char *option)
+{
+    return take_value(words, option, "the name of a file");
 }
 
 void expect_words(const struct words *words, int least, int most, const char *usage)

@@ -13,8 +13,12 @@ struct words {
 /* Takes an option out of the words: whether it was there. */
 bool take_flag(struct words *words, const char *option);
 
-/* Takes an option and the word behind it out of the words: that word, or null. */
-const char *take_value(struct words *words, const char *option);
+/* Takes an option and the word behind it out of the words: that word, or null. `what` says what the
+ * option wants. */
+const char *take_value(struct words *words, const char *option, const char *what);
+
+/* The same for an option that wants the name of a file. */
+const char *take_file(struct words *words, const char *option);
 
 /* Ends with wrong usage unless `least` to `most` words are left and none of them is an option. */
 void expect_words(const struct words *words, int least, int most, const char *usage);

@@ -4,8 +4,8 @@
 
 #include "settling.h"
 
-/* Prints the bound by the runs of the greatest number and the bound by the lines. Nothing for an
- * empty list, which has no greatest number. */
+/* Prints the bound by the runs of the greatest number, or for an empty list, which has none, its
+ * own; then the bound by the lines. */
 void print_bounds(const struct settling *settling);
 
 #endif

@@ -38,7 +38,7 @@ static void print_tally(const struct tally *tally)
 
 int report_command(struct words words)
 {
-    const char *svg = take_value(&words, "--svg");
+    const char *svg = take_file(&words, "--svg");
     expect_words(&words, 0, 1, "report [FILE] [--svg FILE.svg]");
     struct tally tally = read_tally(words.count == 0 ? NULL : words.word[0]);
     if (svg != NULL && !tally.has_square) {

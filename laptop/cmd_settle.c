@@ -67,10 +67,12 @@ static void print_changes(const struct settling *settling)
 
 int settle_command(struct words words)
 {
-    const char *vcd = take_value(&words, "--vcd");
-    expect_words(&words, 1, INT_MAX, "settle M n1 n2 .. [--vcd FILE]");
+    const char *vcd = take_file(&words, "--vcd");
+    const char *from = take_value(&words, "--from", "a number");
+    expect_words(&words, 1, INT_MAX, "settle M n1 n2 .. [--from START] [--vcd FILE]");
     uint32_t m = number_word(words.word[0], UINT32_MAX);
-    struct settling settling = settle(m, (size_t)words.count - 1, words.word + 1);
+    uint32_t start = from == NULL ? 0 : number_word(from, UINT32_MAX);
+    struct settling settling = settle(m, start, (size_t)words.count - 1, words.word + 1);
     print_stages(&settling);
     print_bounds(&settling);
     print_changes(&settling);

@@ -18,7 +18,7 @@ static unsigned slot_word(const char *word)
 int why_command(struct words words)
 {
     bool rows = take_flag(&words, "--rows");
-    const char *svg = take_value(&words, "--svg");
+    const char *svg = take_file(&words, "--svg");
     expect_words(&words, 2, 2, "why SLOT rack.tab [--rows] [--svg FILE] < listing");
     struct inquiry inquiry = {.slot = slot_word(words.word[0])};
     inquiry.table = load_table(words.word[1]);

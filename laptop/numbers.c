@@ -52,8 +52,8 @@ static const struct screen_number screen_numbers[] = {
      "and report them, for somebody must see how the count got there."},
     {17, "state not well formed (before 11 to 16)",
      "The memory of the rack does not fit its table and rule: the waiting cards, counts, batch, "
-     "inhibited cards, last winner or holder. Load the table again. If the number comes back, "
-     "exchange the card that shows it."},
+     "inhibited cards, last winner, holder or kept line value. Load the table again. If the number "
+     "comes back, exchange the card that shows it."},
     {18, "trace line malformed",
      "Look at this line of the trace: Q, A or R, one space, two digits, a newline and nothing "
      "else; A has 00. Blank lines and line ends of Windows are malformed too."},
@@ -68,6 +68,9 @@ static const struct screen_number screen_numbers[] = {
     {24, "stage buffer under m+1 entries",
      "The program that settles lends too little memory: tell its maker that m lines need m + 1 "
      "entries of two bytes."},
+    {25, "start over 2^m - 1",
+     "Look at the start: on 4 lines the greatest is 15. It is what the lines still carry, the "
+     "value at which they settled last. Correct it or give more lines."},
     {31, "65,535 or more done events are already counted",
      "The report holds for the first 65,535 done events and says nothing of what came later. To "
      "see that too, report on shorter traces, each from the start of the rack."},

@@ -8,13 +8,14 @@
 #include <stddef.h>
 #include <stdint.h>
 
-/* Settles m arbitration lines for the competing numbers.
+/* Settles m arbitration lines, which carry `start`, for the competing numbers.
  *
  * Numbers and stages are entries of two bytes each, low byte first; an odd last byte is passed
  * over. Returns t, the number of stages: entries 0 to t of `stages` then hold the lines after each
- * stage, and the entries beyond keep their contents. Or returns 100 plus the refusal, 21 to 24. */
+ * stage, entry 0 the start, and the entries beyond keep their contents. Or returns 100 plus the
+ * refusal, 21 to 25. */
 uint32_t rack_settle(uint32_t m, const uint8_t *numbers, size_t numbers_len, uint8_t *stages,
-                     size_t stages_len);
+                     size_t stages_len, uint32_t start);
 
 /* Judges a card table as it stands on file. Returns the refusal, 1 to 7, or 0. */
 uint32_t rack_check(const uint8_t *file, size_t len);

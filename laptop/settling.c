@@ -30,12 +30,12 @@ static void keep_numbers(struct settling *settling, size_t count, char **numbers
     settling->count = count < KEPT_NUMBERS ? count : KEPT_NUMBERS;
 }
 
-struct settling settle(uint32_t m, size_t count, char **numbers)
+struct settling settle(uint32_t m, uint32_t start, size_t count, char **numbers)
 {
-    struct settling settling = {.m = m};
+    struct settling settling = {.m = m, .start = start};
     keep_numbers(&settling, count, numbers);
     uint32_t answer = rack_settle(m, settling.numbers, settling.count * ENTRY_BYTES,
-                                  settling.stages, sizeof settling.stages);
+                                  settling.stages, sizeof settling.stages, start);
     if (answer >= REFUSED) {
         bad_input("refused with %u: %s", answer - REFUSED, meaning_of(answer - REFUSED));
     }

@@ -10,15 +10,16 @@ enum { MOST_LINES = 12, KEPT_NUMBERS = 64 + 1, ENTRY_BYTES = 2 };
 
 struct settling {
     uint32_t m;
+    uint32_t start; /* what the lines carry at stage 0 */
     size_t count; /* competing numbers */
     uint32_t t;
     uint8_t numbers[KEPT_NUMBERS * ENTRY_BYTES]; /* two bytes each, low byte first */
     uint8_t stages[(MOST_LINES + 1) * ENTRY_BYTES];
 };
 
-/* Settles `count` numbers written in decimal. Ends with wrong usage if one is not a number, with
- * bad input if the entry refuses. */
-struct settling settle(uint32_t m, size_t count, char **numbers);
+/* Settles m lines from this start for `count` numbers written in decimal. Ends with wrong usage if
+ * one is not a number, with bad input if the entry refuses. */
+struct settling settle(uint32_t m, uint32_t start, size_t count, char **numbers);
 
 /* The number of the competitor with this index, 0 to count - 1. */
 unsigned competitor(const struct settling *settling, size_t index);

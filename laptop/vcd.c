@@ -12,7 +12,8 @@ static char code(uint32_t line)
 
 static void write_header(FILE *file, const struct settling *settling)
 {
-    fprintf(file, "$comment one time unit a stage: %u lines, competing", settling->m);
+    fprintf(file, "$comment one time unit a stage: %u lines from %u, competing", settling->m,
+            settling->start);
     for (size_t i = 0; i < settling->count; i++) {
         fprintf(file, " %u", competitor(settling, i));
     }

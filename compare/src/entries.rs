@@ -7,13 +7,14 @@ extern "C" {
         numbers_len: usize,
         stages: *mut u8,
         stages_len: usize,
+        start: u32,
     ) -> u32;
     fn rack_check(file: *const u8, len: usize) -> u32;
     fn rack_table(file: *const u8, len: usize, out: *mut u8, out_len: usize) -> u32;
 }
 
 /// The stages t, or 100 plus the refusal.
-pub fn settle(m: u32, numbers: &[u8], stages: &mut [u8]) -> u32 {
+pub fn settle(m: u32, numbers: &[u8], stages: &mut [u8], start: u32) -> u32 {
     // SAFETY: each pointer comes from a slice that lives through the call, with its own length.
     unsafe {
         rack_settle(
@@ -22,6 +23,7 @@ pub fn settle(m: u32, numbers: &[u8], stages: &mut [u8]) -> u32 {
             numbers.len(),
             stages.as_mut_ptr(),
             stages.len(),
+            start,
         )
     }
 }

@@ -4,13 +4,13 @@ use crate::rules::{rule, Rule};
 use crate::settling;
 use crate::table::{self, Table};
 
-#[derive(Clone, Copy, Debug, PartialEq, Eq)]
+#[derive(Clone, Copy, Debug, PartialEq, Eq, Hash)]
 pub enum Bus {
     Free,
     Held(u8),
 }
 
-#[derive(Clone, Copy, Debug, PartialEq, Eq)]
+#[derive(Clone, Copy, Debug, PartialEq, Eq, Hash)]
 pub struct Rack {
     pub table: Table,
     pub waiting: [bool; 64],
@@ -22,6 +22,8 @@ pub struct Rack {
     /// 0 if none yet.
     pub last_winner: u8,
     pub bus: Bus,
+    /// The last settled value, which the lines still carry. 0 if none yet.
+    pub kept: u16,
 }
 
 #[derive(Clone, Copy, Debug, PartialEq, Eq)]
@@ -49,6 +51,7 @@ impl Rack {
             inhibited: [false; 64],
             last_winner: 0,
             bus: Bus::Free,
+            kept: 0,
         }
     }
 
@@ -65,8 +68,14 @@ impl Rack {
             && (0..64).all(|card| !self.waits(card) || self.table.has(card))
             && (self.last_winner == 0 || self.table.has(self.last_winner))
             && self.holder_is_well_formed()
+            && u32::from(self.kept) < 1 << self.lines()
             && (0..64).all(|card| self.count_is_well_formed(card))
             && (0..64).all(|card| self.sets_are_well_formed(card))
+    }
+
+    /// How many lines the rule has. Only for a sound table.
+    pub fn lines(&self) -> u32 {
+        (rule(self.table.rule).lines)(self.table.k)
     }
 
     fn holder_is_well_formed(&self) -> bool {
@@ -171,17 +180,18 @@ impl Rack {
         let rule = rule(self.table.rule);
         let ready = self.renewed();
         let outcome = ready.settle(rule, &ready.competitors());
-        let next = ready.grant(rule, outcome.winner)?;
+        let mut next = ready.grant(rule, outcome.winner)?;
+        next.kept = outcome.lines;
         Ok((next, outcome))
     }
 
     fn settle(&self, rule: &Rule, competitors: &[u8]) -> Outcome {
-        let m = (rule.lines)(self.table.k);
+        let m = self.lines();
         let numbers: Vec<u16> = competitors
             .iter()
             .map(|&card| (rule.number)(self, card))
             .collect();
-        let stages = settling::settle(m, &numbers, m as usize + 1)
+        let stages = settling::settle(m, &numbers, m as usize + 1, self.kept.into())
             .expect("a well-formed state competes within the lines");
         let lines = stages[stages.len() - 1];
         Outcome {

@@ -3,8 +3,9 @@
 use crate::rack::{Bus, Event, Outcome, Rack};
 use crate::table::{self, Table};
 
-/// k, the rule, five arrays by number, the last winner, and two bytes for the bus.
-pub const STATE: usize = 2 + 5 * 64 + 3;
+/// k, the rule, five arrays by number, the last winner, two bytes for the bus, and two for the kept
+/// value of the lines.
+pub const STATE: usize = 2 + 5 * 64 + 3 + 2;
 /// A state, a letter and a number.
 pub const RECORD: usize = STATE + 2;
 /// A state and five bytes about what became of it; after a save the lent bytes follow.
@@ -50,6 +51,7 @@ pub fn rack(bytes: &[u8]) -> Rack {
             0 => Bus::Free,
             _ => Bus::Held(bytes_after[2]),
         },
+        kept: u16::from_le_bytes([bytes_after[3], bytes_after[4]]),
     }
 }
 
@@ -65,6 +67,7 @@ fn state_bytes(rack: &Rack) -> Vec<u8> {
         Bus::Free => [0, 0],
         Bus::Held(card) => [1, card],
     });
+    bytes.extend(rack.kept.to_le_bytes());
     bytes
 }
 

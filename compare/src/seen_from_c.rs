@@ -22,8 +22,8 @@ pub fn bytes(numbers: &[u16]) -> Vec<u8> {
 }
 
 /// The stages t, or 100 plus the refusal.
-pub fn settle(m: u32, competing: &[u8], buffer: &mut [u8]) -> u32 {
-    match settling::settle(m, &numbers(competing), buffer.len() / 2) {
+pub fn settle(m: u32, competing: &[u8], buffer: &mut [u8], start: u32) -> u32 {
+    match settling::settle(m, &numbers(competing), buffer.len() / 2, start) {
         Ok(stages) => {
             let written = bytes(&stages);
             buffer[..written.len()].copy_from_slice(&written);

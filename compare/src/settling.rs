@@ -6,11 +6,6 @@ pub type Lines = Vec<bool>;
 pub const MOST_LINES: u32 = 12;
 pub const MOST_COMPETITORS: usize = 64;
 
-/// All settling starts with every line at 0.
-fn start(m: usize) -> Lines {
-    vec![false; m]
-}
-
 pub fn bits(number: u16, m: usize) -> Lines {
     (0..m).map(|j| number >> j & 1 == 1).collect()
 }
@@ -44,32 +39,31 @@ fn stages(competitors: &[Lines], start: Lines) -> Vec<Lines> {
     }
 }
 
-fn refusal(m: u32, numbers: &[u16], places: usize) -> Option<u32> {
+fn refusal(m: u32, numbers: &[u16], places: usize, start: u32) -> Option<u32> {
     if !(1..=MOST_LINES).contains(&m) {
         return Some(21);
     }
     if numbers.len() > MOST_COMPETITORS {
         return Some(22);
     }
-    if numbers
-        .iter()
-        .any(|&number| u32::from(number) > (1 << m) - 1)
-    {
+    let greatest = (1 << m) - 1;
+    if numbers.iter().any(|&number| u32::from(number) > greatest) {
         return Some(23);
     }
     if places < m as usize + 1 {
         return Some(24);
     }
-    None
+    (start > greatest).then_some(25)
 }
 
-/// The lines as numbers from stage 0 to stage t, or the refusal.
+/// The lines as numbers from stage 0 to stage t, or the refusal. Stage 0 is the start.
 /// `places` is the number of entries in the buffer that the caller lends.
-pub fn settle(m: u32, numbers: &[u16], places: usize) -> Result<Vec<u16>, u32> {
-    if let Some(number) = refusal(m, numbers, places) {
+pub fn settle(m: u32, numbers: &[u16], places: usize, start: u32) -> Result<Vec<u16>, u32> {
+    if let Some(number) = refusal(m, numbers, places, start) {
         return Err(number);
     }
     let m = m as usize;
     let competitors: Vec<Lines> = numbers.iter().map(|&number| bits(number, m)).collect();
-    Ok(stages(&competitors, start(m)).iter().map(value).collect())
+    let start = bits(start as u16, m);
+    Ok(stages(&competitors, start).iter().map(value).collect())
 }

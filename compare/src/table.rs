@@ -8,7 +8,7 @@ pub const LONGEST_FILE: usize = 8192;
 pub const HIGHEST_SLOT: u8 = 63;
 const ENTRY: usize = 6;
 
-#[derive(Clone, Copy, Debug, PartialEq, Eq)]
+#[derive(Clone, Copy, Debug, PartialEq, Eq, Hash)]
 pub struct Table {
     pub k: u8,
     pub rule: u8,

@@ -1,4 +1,5 @@
-/* Reads what racklap settle printed and judges it line by line: withdrawals M n1 n2 .. < output.
+/* Reads what racklap settle printed and judges it line by line:
+ * withdrawals M START n1 n2 .. < output.
  *
  * The stages are taken as printed. The bounds are worked out anew from the binary digits of the
  * greatest number. Who withdraws is worked out anew from the sentence of the scope: a competitor
@@ -8,7 +9,7 @@
 #include <stdlib.h>
 #include <string.h>
 
-static unsigned m, t;
+static unsigned m, start, t;
 static unsigned stages[64];
 
 static void expect(const char *row)
@@ -37,7 +38,8 @@ static void read_stages(void)
     unsigned stage;
     char binary[16];
     while (scanf("%u %u %12[01]\n", &stage, &stages[t], binary) == 3) {
-        if (stage != t || strlen(binary) != m || strtoul(binary, NULL, 2) != stages[t] || t > 12) {
+        if (stage != t || strlen(binary) != m || strtoul(binary, NULL, 2) != stages[t] || t > 12 ||
+            stages[0] != start) {
             fprintf(stderr, "withdrawals: stage %u is wrong\n", t);
             exit(1);
         }
@@ -83,10 +85,33 @@ static const char *plural(unsigned count)
     return count == 1 ? "" : "s";
 }
 
-static void expect_bounds(unsigned greatest)
+/* Writes what the start adds to the runs, from the sentence of document 02: one stage more, except
+ * where the greatest number has its top line set. From 0 nothing is added. */
+static unsigned write_start(char *words, unsigned greatest)
 {
-    char runs[32], digits[32], binary[64] = "", shown[64] = "", row[256];
+    bool more = start > 0 && greatest < 1u << (m - 1);
+    *words = '\0';
+    if (start > 0) {
+        sprintf(words, ", %s more for the start, as line %u is %d in it", more ? "and one" : "none",
+                m - 1, more ? 0 : 1);
+    }
+    return more ? 1 : 0;
+}
+
+static void expect_at_most(unsigned most, const char *row)
+{
+    expect(row);
+    if (t > most) {
+        fprintf(stderr, "withdrawals: t = %u is over %s", t, row);
+        exit(1);
+    }
+}
+
+static void expect_greatest(unsigned greatest)
+{
+    char runs[32], digits[32], binary[64] = "", shown[64] = "", more[64], row[256];
     unsigned count = write_runs(runs, greatest);
+    unsigned most = count + write_start(more, greatest);
     remove_blanks(digits, runs);
     if (count > 0) {
         sprintf(binary, " = %s", digits);
@@ -94,15 +119,16 @@ static void expect_bounds(unsigned greatest)
     if (count > 1) {
         sprintf(shown, " (%s)", runs);
     }
-    sprintf(row, "at most %u stage%s with greatest number %u%s: %u run%s%s\n", count, plural(count),
-            greatest, binary, count, plural(count), shown);
-    expect(row);
+    sprintf(row, "at most %u stage%s with greatest number %u%s: %u run%s%s%s\n", most, plural(most),
+            greatest, binary, count, plural(count), shown, more);
+    expect_at_most(most, row);
+}
+
+static void expect_lines_bound(void)
+{
+    char row[256];
     sprintf(row, "at most %u stage%s on %u line%s\n", m, plural(m), m, plural(m));
-    expect(row);
-    if (t > count || t > m) {
-        fprintf(stderr, "withdrawals: t = %u is over its bound\n", t);
-        exit(1);
-    }
+    expect_at_most(m, row);
 }
 
 /* Expects "stage S: N VERB line(s) a, b AFTER" if any of the lines is in the set. */
@@ -148,17 +174,21 @@ static unsigned greatest_of(int count, char **numbers)
 
 int main(int argc, char **argv)
 {
-    if (argc < 2) {
-        fprintf(stderr, "usage: withdrawals M n1 n2 .. < output\n");
+    if (argc < 3) {
+        fprintf(stderr, "usage: withdrawals M START n1 n2 .. < output\n");
         return 2;
     }
     m = (unsigned)atoi(argv[1]);
+    start = (unsigned)atoi(argv[2]);
     read_stages();
-    if (argc > 2) {
-        expect_bounds(greatest_of(argc - 2, argv + 2));
+    if (argc > 3) {
+        expect_greatest(greatest_of(argc - 3, argv + 3));
+    } else {
+        expect_at_most(1, "at most 1 stage without a competing number\n");
     }
+    expect_lines_bound();
     for (unsigned stage = 1; stage <= t; stage++) {
-        for (int i = 2; i < argc; i++) {
+        for (int i = 3; i < argc; i++) {
             expect_competitor(stage, (unsigned)atoi(argv[i]));
         }
     }

@@ -1,7 +1,8 @@
 //! Prints how many stages an arbitration takes at most, for each rule and width: the lines, which
-//! are the bound, and the most stages that were found in runs from a fresh state.
+//! are the bound, and the most stages that were found. The first table is of runs from a fresh
+//! state, the second of the states in such runs with anything on the lines.
 //!
-//! `--check FILE` holds the table of a document against the printed one.
+//! `--check FILE` holds the tables of a document against the printed ones.
 
 #[path = "../timer/built.rs"]
 mod built;
@@ -13,6 +14,7 @@ mod run;
 mod walk;
 
 use cell::Cell;
+use compare::rackstate::Shared;
 use compare::report::Report;
 use std::fs;
 use std::process::ExitCode;
@@ -40,21 +42,31 @@ fn repeat(check: Option<&str>) -> String {
     }
 }
 
-fn row(number: u8, repeat: &str, report: &mut Report) -> String {
-    let mut row = format!("| {} |", ROWS[usize::from(number)]);
+/// The rule's rows in both tables.
+fn rows(number: u8, program: &Shared, repeat: &str, report: &mut Report) -> [String; 2] {
+    let head = format!("| {} |", ROWS[usize::from(number)]);
+    let mut rows = [head.clone(), head];
     for k in 1..=6 {
         let cell = Cell::of(number, k);
-        report.test(&format!("rule {number}, k = {k}"), cell.hold(), repeat);
-        row += &format!(" {} |", cell.shown());
+        let name = format!("rule {number}, k = {k}");
+        report.test(&name, cell.hold(), repeat);
+        let from_any = format!("{name}, anything on the lines");
+        report.test(&from_any, cell.hold_from_any(program), repeat);
+        rows[0] += &format!(" {} |", cell.shown());
+        rows[1] += &format!(" {} |", cell.shown_from_any());
     }
-    row
+    rows
 }
 
-/// The document has this table and no other.
-fn in_document(file: &str, table: &[String]) -> Result<(), String> {
+fn table(rows: impl Iterator<Item = String>) -> Vec<String> {
+    HEAD.map(str::to_string).into_iter().chain(rows).collect()
+}
+
+/// The document has these tables and no other.
+fn in_document(file: &str, tables: &[Vec<String>; 2]) -> Result<(), String> {
     let text = fs::read_to_string(file).map_err(|error| format!("{file}: {error}"))?;
     let rows: Vec<&str> = text.lines().filter(|line| line.starts_with('|')).collect();
-    if rows == table {
+    if rows == tables.concat() {
         return Ok(());
     }
     Err(format!("{file} has\n{}", rows.join("\n")))
@@ -63,12 +75,16 @@ fn in_document(file: &str, table: &[String]) -> Result<(), String> {
 fn run(check: Option<&str>) -> ExitCode {
     let repeat = repeat(check);
     let mut report = Report::new();
-    let rows = (0..ROWS.len() as u8).map(|number| row(number, &repeat, &mut report));
-    let rows: Vec<String> = rows.collect();
-    let table = [HEAD.map(str::to_string).to_vec(), rows].concat();
-    println!("{}", table.join("\n"));
+    let program = Shared::default();
+    let rows = (0..ROWS.len() as u8).map(|number| rows(number, &program, &repeat, &mut report));
+    let rows: Vec<[String; 2]> = rows.collect();
+    let tables = [0, 1].map(|which| table(rows.iter().map(|both| both[which].clone())));
+    for table in &tables {
+        println!("{}\n", table.join("\n"));
+    }
     if let Some(file) = check {
-        report.test("the document's table", in_document(file, &table), &repeat);
+        let outcome = in_document(file, &tables);
+        report.test("the document's tables", outcome, &repeat);
     }
     report.finish()
 }

@@ -13,17 +13,17 @@ use compare::report::Report;
 use compare::rng::Rng;
 use compare::seen_from_c;
 use compare::settling::MOST_LINES;
-use model::Stages;
+use model::{Case, Stages};
 use std::process::ExitCode;
 
 const PROGRAM: &str = "compare/verilog/run";
 const USAGE: &str = "compare/verilog/run [--seed S] [--settlings N]
-compare/verilog/run --settle M NUMBERS    as in 4 2,5,9,10 or 1 none";
+compare/verilog/run --settle M NUMBERS START    as in 4 2,5,9,10 15 or 1 none 0";
 
 struct Options {
     seed: u64,
     settlings: u64,
-    one: Option<(u32, Vec<u16>)>,
+    one: Option<(u32, Case)>,
 }
 
 fn number<T: std::str::FromStr>(word: Option<&str>) -> Result<T, String> {
@@ -50,19 +50,25 @@ fn options(words: &[String]) -> Result<Options, String> {
         match word {
             "--seed" => options.seed = number(words.next())?,
             "--settlings" => options.settlings = number(words.next())?,
-            "--settle" => options.one = Some((number(words.next())?, list(words.next())?)),
+            "--settle" => {
+                let m = number(words.next())?;
+                let numbers = list(words.next())?;
+                let start = number(words.next())?;
+                options.one = Some((m, Case { start, numbers }));
+            }
             _ => return Err(format!("{word} is no option")),
         }
     }
     Ok(options)
 }
 
-fn settle_in_product(m: u32, numbers: &[u16]) -> Result<Stages, String> {
+fn settle_in_product(m: u32, case: &Case) -> Result<Stages, String> {
     let places = m as usize + 1;
     let mut buffer = vec![0; 2 * places];
-    let t = entries::settle(m, &seen_from_c::bytes(numbers), &mut buffer) as usize;
+    let competing = seen_from_c::bytes(&case.numbers);
+    let t = entries::settle(m, &competing, &mut buffer, case.start.into()) as usize;
     if t >= places {
-        return Err(format!("{numbers:?}: the product answered {t}"));
+        return Err(format!("{case:?}: the product answered {t}"));
     }
     let mut stages = seen_from_c::numbers(&buffer);
     stages.truncate(t + 1);
@@ -70,78 +76,95 @@ fn settle_in_product(m: u32, numbers: &[u16]) -> Result<Stages, String> {
 }
 
 /// Both must show the same lines, stage by stage, and so the same t.
-fn hold(numbers: &[u16], who: &str, shown: &[u16], expected: &[u16]) -> Result<(), String> {
+fn hold(case: &Case, who: &str, shown: &[u16], expected: &[u16]) -> Result<(), String> {
     if shown == expected {
         return Ok(());
     }
     let (t, expected_t) = (shown.len() - 1, expected.len() - 1);
     Err(format!(
-        "{numbers:?}: {who} shows {shown:?}, t = {t}; expected {expected:?}, t = {expected_t}"
+        "{case:?}: {who} shows {shown:?}, t = {t}; expected {expected:?}, t = {expected_t}"
     ))
 }
 
-fn repeat(m: u32, numbers: &[u16]) -> String {
-    let words: Vec<String> = numbers.iter().map(u16::to_string).collect();
+fn repeat(m: u32, case: &Case) -> String {
+    let words: Vec<String> = case.numbers.iter().map(u16::to_string).collect();
     let list = match words.len() {
         0 => "none".to_string(),
         _ => words.join(","),
     };
-    format!("{PROGRAM} --settle {m} {list}")
+    format!("{PROGRAM} --settle {m} {list} {}", case.start)
 }
 
-/// Here document 01 gives the lines, and both sides must show them.
+/// Here the lines are written out, and both sides must show them.
 fn test_known(report: &mut Report) {
     for known in &KNOWN {
-        let (m, numbers) = (known.m, known.competing);
-        let outcome = model::settle(m, &[numbers.to_vec()])
-            .and_then(|answers| hold(numbers, "Verilog", &answers[0], known.lines))
-            .and_then(|()| {
-                hold(
-                    numbers,
-                    "the product",
-                    &settle_in_product(m, numbers)?,
-                    known.lines,
-                )
-            });
-        report.test(known.name, outcome, &repeat(m, numbers));
+        let m = known.m;
+        let case = Case {
+            start: known.lines[0],
+            numbers: known.competing.to_vec(),
+        };
+        let outcome = model::settle(m, std::slice::from_ref(&case))
+            .and_then(|answers| hold(&case, "Verilog", &answers[0], known.lines))
+            .and_then(|()| settle_in_product(m, &case))
+            .and_then(|stages| hold(&case, "the product", &stages, known.lines));
+        report.test(known.name, outcome, &repeat(m, &case));
     }
     println!("{} known settlings", KNOWN.len());
 }
 
-/// One test: all lists of one m. The first difference is shown.
-fn test_lists(report: &mut Report, m: u32, lists: &[Vec<u16>]) {
+/// One test: all cases of one m. The first difference is shown.
+fn test_cases(report: &mut Report, m: u32, cases: &[Case]) {
     let name = format!("m = {m}");
-    let answers = match model::settle(m, lists) {
+    let answers = match model::settle(m, cases) {
         Ok(answers) => answers,
         Err(what) => return report.test(&name, Err(what), PROGRAM),
     };
-    for (numbers, verilog) in lists.iter().zip(&answers) {
-        let outcome = settle_in_product(m, numbers)
-            .and_then(|product| hold(numbers, "the product", &product, verilog));
+    for (case, verilog) in cases.iter().zip(&answers) {
+        let outcome = settle_in_product(m, case)
+            .and_then(|product| hold(case, "the product", &product, verilog));
         if outcome.is_err() {
-            return report.test(&name, outcome, &repeat(m, numbers));
+            return report.test(&name, outcome, &repeat(m, case));
         }
     }
     let longest = answers.iter().map(|stages| stages.len() - 1).max();
     let longest = longest.unwrap_or(0);
-    println!("m = {m}: {} settlings, greatest t {longest}", lists.len());
+    println!("m = {m}: {} settlings, greatest t {longest}", cases.len());
     report.test(&name, Ok(()), PROGRAM);
+}
+
+/// Every extreme list from every extreme start.
+fn extreme_cases(m: u32) -> Vec<Case> {
+    let of = |numbers: Vec<u16>| {
+        lists::extreme_starts(m).map(|start| Case {
+            start,
+            numbers: numbers.clone(),
+        })
+    };
+    lists::extreme_lists(m).into_iter().flat_map(of).collect()
+}
+
+fn random_case(rng: &mut Rng, m: u32) -> Case {
+    let numbers = lists::random_list(rng, m);
+    Case {
+        start: lists::random_start(rng, m, &numbers),
+        numbers,
+    }
 }
 
 fn test_every_m(report: &mut Report, seed: u64, settlings: u64) {
     let mut rng = Rng::new(seed);
     for m in 1..=MOST_LINES {
-        let mut lists = lists::extreme_lists(m);
+        let mut cases = extreme_cases(m);
         let random = settlings.div_ceil(u64::from(MOST_LINES));
-        lists.extend((0..random).map(|_| lists::random_list(&mut rng, m)));
-        test_lists(report, m, &lists);
+        cases.extend((0..random).map(|_| random_case(&mut rng, m)));
+        test_cases(report, m, &cases);
     }
 }
 
 fn run(options: Options) -> ExitCode {
     let mut report = Report::new();
     match options.one {
-        Some((m, numbers)) => test_lists(&mut report, m, &[numbers]),
+        Some((m, case)) => test_cases(&mut report, m, &[case]),
         None => {
             println!("seed {}", options.seed);
             test_known(&mut report);

@@ -1,5 +1,6 @@
 //! Small worlds, every member of them.
 
+use super::expect::expect;
 use super::guarded::agreed;
 use super::kind::Kind;
 use super::met::Met;
@@ -7,22 +8,34 @@ use super::named_tables::WORKED_TABLE;
 use super::stage_bounds;
 use super::traces::hold;
 use crate::entries;
+use crate::rng::Rng;
 use crate::seen_from_c;
+
+/// The numbers settle from every start, and always to the same lines.
+fn from_every_start(m: u32, numbers: &[u16], rng: &mut Rng, met: &mut Met) -> Result<(), String> {
+    let competing = seen_from_c::bytes(numbers);
+    let mut settled = Vec::new();
+    for start in 0..1 << m {
+        let (t, buffer) = agreed(
+            2 * (m as usize + 1),
+            rng,
+            |buffer| entries::settle(m, &competing, buffer, start),
+            |buffer| seen_from_c::settle(m, &competing, buffer, start),
+        )
+        .map_err(|what| format!("numbers {numbers:?} from {start}: {what}"))?;
+        stage_bounds::hold(m, numbers, t, met)?;
+        settled.push(seen_from_c::numbers(&buffer)[t as usize]);
+    }
+    expect(settled.iter().all(|lines| *lines == settled[0]), true)
+        .map_err(|_| format!("numbers {numbers:?} settle to {settled:?}"))
+}
 
 fn every_set_of_numbers(m: u32) -> Kind {
     Kind::new(format!("every-set-of-numbers-m-{m}"), 1, move |rng, met| {
         let numbers = 1u32 << m;
         for set in 0..1u64 << numbers {
             let chosen: Vec<u16> = (0..numbers as u16).filter(|i| set >> i & 1 == 1).collect();
-            let competing = seen_from_c::bytes(&chosen);
-            let (t, _) = agreed(
-                2 * (m as usize + 1),
-                rng,
-                |buffer| entries::settle(m, &competing, buffer),
-                |buffer| seen_from_c::settle(m, &competing, buffer),
-            )
-            .map_err(|what| format!("numbers {chosen:?}: {what}"))?;
-            stage_bounds::hold(m, &chosen, t, met)?;
+            from_every_start(m, &chosen, rng, met)?;
         }
         Ok(())
     })

@@ -1,5 +1,6 @@
 //! Generated settlings through the C entry.
 
+use super::expect::expect;
 use super::guarded::agreed;
 use super::kind::{dashed, Kind};
 use super::met::Met;
@@ -11,12 +12,14 @@ use crate::seen_from_c;
 use crate::settling::MOST_LINES;
 use crate::slowest;
 
+#[derive(Debug)]
 struct Case {
     m: u32,
     numbers: Vec<u16>,
     /// Half a number at the end of the list, to be passed over.
     odd_byte: bool,
     buffer: usize,
+    start: u32,
 }
 
 fn greatest(m: u32) -> u16 {
@@ -31,6 +34,13 @@ fn number(m: u32, rng: &mut Rng) -> u16 {
         1 => most,
         _ => rng.between(0, u64::from(most)) as u16,
     }
+}
+
+/// What the lines may carry at first, often nothing or all.
+fn start(m: u32, rng: &mut Rng) -> u32 {
+    let most = u32::from(greatest(m));
+    let any = rng.between(0, u64::from(most)) as u32;
+    *rng.pick(&[0, most, any, any])
 }
 
 fn list_length(rng: &mut Rng) -> u64 {
@@ -50,6 +60,7 @@ fn sound(rng: &mut Rng) -> Case {
         numbers,
         odd_byte: rng.chance(1, 4),
         buffer: needed + *rng.pick(&[0, 1, 2, 3, 40]),
+        start: start(m, rng),
     }
 }
 
@@ -78,9 +89,21 @@ fn deep(rng: &mut Rng) -> Case {
     case
 }
 
+/// A start from which nothing is gained: lines at 0, or, where no competitor sets the top line, any
+/// with the top line set, which takes a stage to bring every line to 0.
+fn slowest_start(m: u32, competing: u16, rng: &mut Rng) -> u32 {
+    let top = 1 << (m - 1);
+    match u32::from(competing) & top {
+        0 => top + rng.below(top.into()) as u32,
+        _ => 0,
+    }
+}
+
 /// The greatest number with all its rivals, and some others below it, which change nothing: there
-/// are exactly as many stages as the greatest number has intervals.
+/// are exactly as many stages as the greatest number has intervals, and one more from lines that
+/// have to come to 0 first.
 fn slowest_below(greatest: u16, case: &mut Case, rng: &mut Rng) {
+    case.start = slowest_start(case.m, greatest, rng);
     case.numbers = slowest::rivals(greatest);
     for _ in 0..rng.between(0, 8) {
         case.numbers
@@ -91,10 +114,9 @@ fn slowest_below(greatest: u16, case: &mut Case, rng: &mut Rng) {
 }
 
 fn reaching(case: &Case, stages: u32, rng: &mut Rng, met: &mut Met) -> Result<(), String> {
-    let (m, numbers) = (case.m, &case.numbers);
     match hold(case, rng, met)? {
         t if t == stages => Ok(()),
-        t => Err(format!("m {m}, numbers {numbers:?}: {t}, not {stages}")),
+        t => Err(format!("{case:?}: {t}, not {stages}")),
     }
 }
 
@@ -102,18 +124,39 @@ fn reaching_the_intervals(rng: &mut Rng, met: &mut Met) -> Result<(), String> {
     let mut case = sound(rng);
     let greatest = number(case.m, rng);
     slowest_below(greatest, &mut case, rng);
-    reaching(&case, interval_number(greatest), rng, met)
+    let to_come_to_0 = u32::from(case.start != 0);
+    reaching(&case, interval_number(greatest) + to_come_to_0, rng, met)
 }
 
-/// Both bounds at once, as P1 has it on 4 lines.
+/// Both bounds at once, as P1 has it on 4 lines. Either the greatest number has its top line set,
+/// or it leaves that line alone and the lines have to come to 0 first.
 fn reaching_the_lines(m: u32) -> Kind {
     Kind::new(format!("settling-reaching-m-{m}"), 2, move |rng, met| {
         let mut case = sound(rng);
         case.m = m;
         case.buffer = 2 * (m as usize + 1);
-        slowest_below(slowest::alternating(m), &mut case, rng);
+        let greatest = *rng.pick(&[slowest::alternating(m), slowest::alternating(m - 1)]);
+        slowest_below(greatest, &mut case, rng);
         reaching(&case, m, rng, met)
     })
+}
+
+/// The same list from another start settles to the same lines.
+fn from_another_start(rng: &mut Rng, met: &mut Met) -> Result<(), String> {
+    let mut case = sound(rng);
+    let (t, buffer) = both(&case, rng, met)?;
+    let settled = seen_from_c::numbers(&buffer)[t as usize];
+    case.start = start(case.m, rng);
+    let (t, buffer) = both(&case, rng, met)?;
+    expect(seen_from_c::numbers(&buffer)[t as usize], settled)
+        .map_err(|what| format!("{case:?}: {what}"))
+}
+
+/// No number brings every line to 0.
+fn of_no_number(rng: &mut Rng, met: &mut Met) -> Result<(), String> {
+    let mut case = sound(rng);
+    case.numbers.clear();
+    reaching(&case, u32::from(case.start != 0), rng, met)
 }
 
 /// Anything at all, near the edges.
@@ -139,12 +182,19 @@ fn noisy(rng: &mut Rng) -> Case {
         numbers,
         odd_byte: rng.chance(1, 2),
         buffer: rng.between(around - 2, around + 3) as usize,
+        start: *rng.pick(&[0, 0, edge - 1, edge, edge + 1, edges[5]]),
     }
 }
 
 /// Puts one fault into a case; a fault of a greater number has to come first.
 fn spoil(case: &mut Case, refusal: u32, rng: &mut Rng) {
     match refusal {
+        25 => {
+            // 65536 would be 0 in two bytes.
+            let edge = 1 << case.m;
+            let any = rng.between(edge.into(), u32::MAX.into()) as u32;
+            case.start = *rng.pick(&[edge, edge + 1, 1 << 16, (1 << 16) + 1, u32::MAX, any]);
+        }
         24 => case.buffer = rng.below(2 * (u64::from(case.m) + 1)) as usize,
         23 => {
             let edge = 1u64 << case.m;
@@ -168,22 +218,27 @@ fn spoil(case: &mut Case, refusal: u32, rng: &mut Rng) {
 }
 
 fn hold(case: &Case, rng: &mut Rng, met: &mut Met) -> Result<u32, String> {
+    both(case, rng, met).map(|(answer, _)| answer)
+}
+
+/// The answer that both give, and what both leave in the buffer.
+fn both(case: &Case, rng: &mut Rng, met: &mut Met) -> Result<(u32, Vec<u8>), String> {
     let mut competing = seen_from_c::bytes(&case.numbers);
     if case.odd_byte {
         competing.push(rng.byte());
     }
-    let (answer, _) = agreed(
+    let (answer, buffer) = agreed(
         case.buffer,
         rng,
-        |buffer| entries::settle(case.m, &competing, buffer),
-        |buffer| seen_from_c::settle(case.m, &competing, buffer),
+        |buffer| entries::settle(case.m, &competing, buffer, case.start),
+        |buffer| seen_from_c::settle(case.m, &competing, buffer, case.start),
     )
-    .map_err(|what| format!("m {}, numbers {:?}: {what}", case.m, case.numbers))?;
+    .map_err(|what| format!("{case:?}: {what}"))?;
     met.meet(answer.saturating_sub(100));
     if answer < 100 {
         stage_bounds::hold(case.m, &case.numbers, answer, met)?;
     }
-    Ok(answer)
+    Ok((answer, buffer))
 }
 
 fn accepted(make: fn(&mut Rng) -> Case) -> impl Fn(&mut Rng, &mut Met) -> Result<(), String> {
@@ -229,13 +284,15 @@ pub fn kinds() -> Vec<Kind> {
         Kind::new("settling-repeated", 20, accepted(repeated)),
         Kind::new("settling-deep", 20, accepted(deep)),
         Kind::new("settling-reaching-intervals", 20, reaching_the_intervals),
+        Kind::new("settling-from-another-start", 20, from_another_start),
+        Kind::new("settling-of-no-number", 5, of_no_number),
         Kind::new("settling-noisy", 40, |rng, met| {
             let case = noisy(rng);
             hold(&case, rng, met).map(|_| ())
         }),
     ];
     kinds.extend((1..=MOST_LINES).map(reaching_the_lines));
-    for faults in choices(&[21, 22, 23, 24]) {
+    for faults in choices(&[21, 22, 23, 24, 25]) {
         let name = format!("settling-refused-{}", dashed(&faults));
         kinds.push(Kind::new(name, 5, refused(faults)));
     }

@@ -3,6 +3,7 @@
 use crate::rack::{Bus, Rack};
 use crate::rng::Rng;
 use crate::rules::GREATEST_RULE;
+use crate::settling::MOST_LINES;
 use crate::table::greatest_number;
 
 pub type Fault = (&'static str, fn(&mut Rack, &mut Rng));
@@ -37,13 +38,15 @@ fn over(low: u8, rng: &mut Rng) -> u8 {
     *rng.pick(&[low, 255, any])
 }
 
-/// Puts the rack under a rule. What the old rule counted and marked would be more faults, so it goes.
+/// Puts the rack under a rule. What the old rule counted, marked and kept on its lines could be more
+/// faults, so it goes.
 fn put_under(rule: u8, rack: &mut Rack) {
     if rack.table.rule != rule {
         rack.table.rule = rule;
         rack.counts = [0; 64];
         rack.batch = [false; 64];
         rack.inhibited = [false; 64];
+        rack.kept = 0;
     }
 }
 
@@ -58,9 +61,11 @@ fn no_card(rack: &mut Rack, _: &mut Rng) {
     rack.table.slots = [0; 64];
 }
 
-/// A card with a number of more than k bits; at k = 6 there is none, so k becomes less.
+/// A card with a number of more than k bits; at k = 6 there is none, so k becomes less, and what is
+/// kept on the lines may no longer fit.
 fn number_over_k(rack: &mut Rack, rng: &mut Rng) {
     rack.table.k = rack.table.k.clamp(1, 5);
+    rack.kept = 0;
     let least = u64::from(greatest_number(rack.table.k)) + 1;
     let number = rng.between(least, 63) as usize;
     rack.table.slots[number] = free_slot(rack);
@@ -143,6 +148,29 @@ fn winner_faults() -> Vec<Fault> {
     ]
 }
 
+/// The least value that the lines can't carry. Where another fault left no sound table, the rule's
+/// lines are unknown, and no rule has more than 12.
+fn least_over_the_lines(rack: &Rack) -> u16 {
+    let lines = match rack.table.is_sound() {
+        true => rack.lines(),
+        false => MOST_LINES,
+    };
+    1 << lines
+}
+
+fn kept_faults() -> Vec<Fault> {
+    vec![
+        ("kept-one-over-the-lines", |rack, _| {
+            rack.kept = least_over_the_lines(rack)
+        }),
+        ("kept-far-over-the-lines", |rack, rng| {
+            let least = least_over_the_lines(rack);
+            let any = rng.between(least.into(), u16::MAX.into()) as u16;
+            rack.kept = *rng.pick(&[least + 1, 1 << 15, u16::MAX, any]);
+        }),
+    ]
+}
+
 fn count_without_waiting(rack: &mut Rack, rng: &mut Rng) {
     put_under(2, rack);
     let card = usize::from(any_card(rack, rng));
@@ -222,6 +250,7 @@ pub fn faults() -> Vec<Fault> {
     [
         table_faults(),
         winner_faults(),
+        kept_faults(),
         count_faults(),
         set_faults(),
     ]

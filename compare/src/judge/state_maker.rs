@@ -47,10 +47,18 @@ fn inhibit(rack: &mut Rack, rng: &mut Rng) {
     }
 }
 
+/// What the lines may carry: anything that fits, often nothing or all.
+fn kept(rack: &Rack, rng: &mut Rng) -> u16 {
+    let most = (1 << rack.lines()) - 1;
+    let any = rng.between(0, u64::from(most)) as u16;
+    *rng.pick(&[0, most, any, any])
+}
+
 /// A well-formed state of any table with this rule.
 pub fn sound(rule: u8, rng: &mut Rng) -> Rack {
     let (mut rack, _) = Rack::load(&table_file(rule, rng));
     begin_waiting(&mut rack, rng);
+    rack.kept = kept(&rack, rng);
     match rule {
         3 => form_batch(&mut rack, rng),
         4 => inhibit(&mut rack, rng),

@@ -17,8 +17,8 @@ use std::ops::Range;
 
 const WAITING: Range<usize> = 2 + 64..2 + 2 * 64;
 const BATCH_AND_INHIBITED: Range<usize> = 2 + 3 * 64..2 + 5 * 64;
-const HELD: usize = STATE - 2;
-const HOLDER: usize = STATE - 1;
+const HELD: usize = 2 + 5 * 64 + 1;
+const HOLDER: usize = HELD + 1;
 
 /// The same state said otherwise: yes is anything but 0, and a free bus has no holder.
 fn disguised(mut record: Vec<u8>, rng: &mut Rng) -> Vec<u8> {

@@ -72,6 +72,9 @@ fn ill_formed_states() -> Vec<Fault> {
             rack.bus = Bus::Held(5);
             rack.last_winner = 2;
         }),
+        ("kept-16-on-4-lines", |rack| rack.kept = 16),
+        ("kept-256-on-4-lines", |rack| rack.kept = 256),
+        ("kept-65535", |rack| rack.kept = 65535),
     ]
 }
 
@@ -138,6 +141,58 @@ fn ill_formed_sets() -> Vec<Fault> {
     ]
 }
 
+/// How many lines each rule has at k = 3.
+const LINES: [(u8, u32); 5] = [(0, 3), (1, 4), (2, 6), (3, 3), (4, 3)];
+
+/// The worked table's cards under a rule, card 2 waiting, with this value kept on the lines.
+fn keeping(rule: u8, kept: u16) -> Rack {
+    let (mut rack, _) = Rack::load(&file_with(3, rule, &[(2, 1), (5, 2), (6, 3)]));
+    rack.waiting[2] = true;
+    rack.kept = kept;
+    rack
+}
+
+/// All lines set is the greatest kept value, under each rule.
+fn kept_values(program: &Shared) -> Vec<Kind> {
+    let mut kinds = Vec::new();
+    for (rule, lines) in LINES {
+        for (over, name, stated) in [(0, "all", 0), (1, "over-all", 17)] {
+            let by = program.clone();
+            let name = format!("kept-{name}-lines-rule-{rule}");
+            kinds.push(Kind::named(name, move |met| {
+                let rack = keeping(rule, (1 << lines) - 1 + over);
+                expect(rack.is_well_formed(), stated == 0)?;
+                hold_expecting(stated, &rack, ARBITRATE, &by, met).map(|_| ())
+            }));
+        }
+    }
+    kinds
+}
+
+/// The arbitration starts from the kept value, and keeps what the lines settle to: 15, 12, 13.
+fn starts_from_the_kept_value(program: &Shared, met: &mut Met) -> Result<(), String> {
+    let mut rack = keeping(1, 15);
+    rack.waiting[5] = true;
+    rack.last_winner = 6;
+    let answer = hold_expecting(0, &rack, ARBITRATE, program, met)?;
+    let (next, report) = answer.split_at(seen_as_bytes::STATE);
+    expect(report, &[0, 5, 13, 0, 2])?;
+    expect(seen_as_bytes::rack(next).kept, 13)
+}
+
+/// A request, a release and refused events leave the lines alone.
+fn others_keep_the_kept_value(program: &Shared, met: &mut Met) -> Result<(), String> {
+    let mut rack = keeping(1, 15);
+    (rack.bus, rack.last_winner) = (Bus::Held(6), 6);
+    let asked = [(b'Q', 5, 0), (b'R', 6, 0), (b'A', 0, 13), (b'Q', 2, 12)];
+    for (letter, number, stated) in asked {
+        let ask = Ask { letter, number };
+        let answer = hold_expecting(stated, &rack, ask, program, met)?;
+        expect(seen_as_bytes::rack(&answer).kept, 15)?;
+    }
+    Ok(())
+}
+
 /// Rule 2 at k = 2, where these cards wait with a full count.
 fn full_counts(cards: &[u8]) -> Rack {
     let (mut rack, _) = Rack::load(&file_with(2, 2, &[(1, 1), (2, 2), (3, 3)]));
@@ -165,6 +220,15 @@ pub fn kinds(program: &Shared) -> Vec<Kind> {
         .into_iter()
         .map(|(name, fault)| ill_formed(program, name, fault))
         .collect();
+    kinds.extend(kept_values(program));
+    let by = program.clone();
+    kinds.push(Kind::named("starts-from-the-kept-value", move |met| {
+        starts_from_the_kept_value(&by, met)
+    }));
+    let by = program.clone();
+    kinds.push(Kind::named("others-keep-the-kept-value", move |met| {
+        others_keep_the_kept_value(&by, met)
+    }));
     let by = program.clone();
     kinds.push(Kind::named("16-loser-with-full-count", move |met| {
         hold_expecting(16, &full_counts(&[1, 3]), ARBITRATE, &by, met).map(|_| ())

@@ -1,7 +1,6 @@
 //! Runs that are built to end with a slow arbitration, for racks with too many states to try all.
 
 use crate::run::Run;
-use compare::rules::rule;
 use compare::slowest;
 use compare::table::greatest_number;
 
@@ -10,8 +9,9 @@ use compare::table::greatest_number;
 pub fn slow_run(file: &[u8]) -> Run {
     let mut run = Run::fresh(file);
     let table = run.rack.table;
-    let m = (rule(table.rule).lines)(table.k);
-    let wanted = slowest::list(m)
+    let m = run.rack.lines();
+    let top_line_idle = table.rule == 2;
+    let wanted = slowest::list(m - u32::from(top_line_idle))
         .into_iter()
         .map(|number| Competitor::of(number, table.k));
     let wanted: Vec<Competitor> = wanted.collect();
@@ -49,28 +49,25 @@ fn ask_behind_a_winner(run: &mut Run, wanted: &[Competitor]) {
     run.all_ask(wanted.iter().map(|competitor| competitor.card));
 }
 
-/// Rule 2: the first of the wanted loses as often as its count says, together with those of the
-/// same count. Whoever is granted with as many losses still to come as another count says asks
-/// again.
+/// Rule 2: the grant before the slow one goes to card 1 with a count that sets the top line, so that
+/// all lines have to come to 0 first. To lose so often it asks with as many greater cards. Those of
+/// the wanted with the greatest count ask together when as many losses are still to come; for
+/// another count whoever was granted last asks again. These are the greatest cards, whose top bit a
+/// rival needs at some widths.
 fn ask_and_lose(run: &mut Run, wanted: &[Competitor]) {
-    let Competitor { card, above: count } = wanted[0];
+    let losses = 1 << (run.rack.table.k - 1);
+    let count = wanted[0].above;
     let (together, later): (Vec<&Competitor>, Vec<&Competitor>) =
         wanted.iter().partition(|other| other.above == count);
     let together: Vec<u8> = together.iter().map(|competitor| competitor.card).collect();
-    let greatest = greatest_number(run.rack.table.k);
-    let greater = card + 1..=greatest;
-    let others = (1..card).filter(|other| !together.contains(other));
-    let older: Vec<u8> = others
-        .take(usize::from(count).saturating_sub(greater.len()))
-        .collect();
-    if !older.is_empty() {
-        run.all_ask(older.into_iter().chain([greatest]));
-        run.grant_and_release();
-    }
-    run.all_ask(together.into_iter().chain(greater));
-    for still_to_come in (0..count).rev() {
+    let greater = (2..=greatest_number(run.rack.table.k)).rev();
+    let others = greater.filter(|card| !together.contains(card));
+    run.all_ask(others.take(usize::from(losses)).chain([1]));
+    for still_to_come in (0..=losses).rev() {
         let winner = run.grant_and_release();
-        if later.iter().any(|other| other.above == still_to_come) {
+        if still_to_come == count {
+            run.all_ask(together.iter().copied());
+        } else if later.iter().any(|other| other.above == still_to_come) {
             run.push('Q', winner);
         }
     }

@@ -7,8 +7,9 @@ use compare::rack::Rack;
 pub struct Run {
     pub rack: Rack,
     pub trace: Vec<u8>,
-    /// The most stages of any arbitration so far.
+    /// The most stages of any arbitration so far, and the state that it was made in.
     pub stages: u8,
+    pub slowest: Rack,
 }
 
 impl Run {
@@ -19,6 +20,7 @@ impl Run {
             rack,
             trace: Vec::new(),
             stages: 0,
+            slowest: rack,
         }
     }
 
@@ -28,8 +30,10 @@ impl Run {
         self.trace.extend(line.as_bytes());
         let event = event(line.as_bytes()).expect("a made line is well formed");
         if let Ok((next, outcome)) = self.rack.after(event) {
+            if outcome.stages > self.stages {
+                (self.stages, self.slowest) = (outcome.stages, self.rack);
+            }
             self.rack = next;
-            self.stages = self.stages.max(outcome.stages);
         }
     }
 

@@ -1,4 +1,4 @@
-//! The lists of competing numbers that are settled.
+//! The lists of competing numbers that are settled, and what the lines start from.
 
 use compare::rng::Rng;
 use compare::settling::MOST_COMPETITORS;
@@ -22,6 +22,22 @@ pub fn extreme_lists(m: u32) -> Vec<Vec<u16>> {
         (0..m).map(|j| 1 << j).collect(),
         slowest::list(m),
     ]
+}
+
+/// The starts where a slip would show first: nothing, all lines, only the top line, all but it.
+pub fn extreme_starts(m: u32) -> [u16; 4] {
+    let top = 1 << (m - 1);
+    [0, top + (top - 1), top, top - 1]
+}
+
+/// Often what the lines settled to before, which is one of the numbers.
+pub fn random_start(rng: &mut Rng, m: u32, numbers: &[u16]) -> u16 {
+    let any = rng.below(1 << m) as u16;
+    let one = match numbers.is_empty() {
+        true => 0,
+        false => *rng.pick(numbers),
+    };
+    *rng.pick(&[any, any, one, 0])
 }
 
 /// Few cards settle longest and many cards fill the rack, so every size gets its share. Numbers

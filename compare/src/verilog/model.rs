@@ -10,13 +10,20 @@ const WORKING_FOLDER: &str = "target/tools/verilog";
 /// The lines after stages 0 to t.
 pub type Stages = Vec<u16>;
 
-/// Settles every list on m lines.
-pub fn settle(m: u32, lists: &[Vec<u16>]) -> Result<Vec<Stages>, String> {
-    let printed = run(&build(m)?, &write_cases(m, lists)?)?;
+/// What the lines start from and the competing numbers.
+#[derive(Clone, Debug)]
+pub struct Case {
+    pub start: u16,
+    pub numbers: Vec<u16>,
+}
+
+/// Settles every case on m lines.
+pub fn settle(m: u32, cases: &[Case]) -> Result<Vec<Stages>, String> {
+    let printed = run(&build(m)?, &write_cases(m, cases)?)?;
     let answers: Result<Vec<Stages>, String> = printed.lines().map(parse_answer).collect();
     match answers {
-        Ok(answers) if answers.len() != lists.len() => {
-            Err(format!("{} cases, {} answers", lists.len(), answers.len()))
+        Ok(answers) if answers.len() != cases.len() => {
+            Err(format!("{} cases, {} answers", cases.len(), answers.len()))
         }
         other => other,
     }
@@ -40,16 +47,15 @@ fn run(model: &Path, cases: &Path) -> Result<String, String> {
     output_of(&mut vvp)
 }
 
-/// A case is the count of its numbers, then the numbers.
-fn write_cases(m: u32, lists: &[Vec<u16>]) -> Result<PathBuf, String> {
-    let mut text = String::new();
-    for numbers in lists {
-        text += &numbers.len().to_string();
-        for number in numbers {
-            text += &format!(" {number}");
-        }
-        text += "\n";
-    }
+fn written(case: &Case) -> String {
+    let numbers = case.numbers.iter().map(|number| format!(" {number}"));
+    let numbers: String = numbers.collect();
+    format!("{} {}{numbers}\n", case.start, case.numbers.len())
+}
+
+/// A case is its start, the count of its numbers, then the numbers.
+fn write_cases(m: u32, cases: &[Case]) -> Result<PathBuf, String> {
+    let text: String = cases.iter().map(written).collect();
     let path = working_file(m, "cases")?;
     match fs::write(&path, text) {
         Ok(()) => Ok(path),

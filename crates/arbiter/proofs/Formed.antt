@@ -8,7 +8,7 @@ use lib.ListN.{length, length-replicate, List·getD-eq-default, replicate}
 use lib.Pow.{pow-pos}
 use borrow.Author.Tests.{ltb-true, lt-ltb, eqb-true, eqb-false, eq-eqb, ne-eqb}
 use Rattle.arbiter.proofs.Tests.{and-left, and-right, otherwise, both, if-so, or-so, replicate-default}
-use Rattle.arbiter.specs.State.{waits, countOf, inBatch, isInhibited, isCard, markFits, setsFit, markOk, sizedOk, lastOk, busOk}
+use Rattle.arbiter.specs.State.{waits, countOf, inBatch, isInhibited, isCard, markFits, setsFit, markOk, sizedOk, lastOk, busOk, linesOf}
 use Rattle.arbiter.specs.State.{wellFormed, freshOf}
 use Rattle.arbiter.specs.declared.RackState.{RackState}
 use Rattle.cards.proofs.Below.{implied, le-or-lt, all-at, all-each}
@@ -16,6 +16,7 @@ use Rattle.cards.proofs.TableKnown.{table-known, card-range}
 use Rattle.cards.specs.Table.{tableGood}
 use Rattle.cards.specs.declared.Table.{Table}
 use Rattle.contest.specs.Marks.{isIn}
+use Rattle.contest.specs.Rules.{linesBy}
 
 -- the marks of a number
 pub record Mark (s : RackState) (n : ℕ) : Type 0 where
@@ -34,6 +35,7 @@ pub record Formed (s : RackState) : Type 0 where
   pub marks : (n : ℕ) → n < 64 → Mark s n
   pub last-known : lastOk s ≡ true
   pub bus-known : busOk s ≡ true
+  pub value-small : s .value < 2 ^ linesOf s
 
 mark-of : (s : RackState) (n : ℕ) → markOk s n ≡ true → Mark s n
 unfolding markFits setsFit
@@ -74,6 +76,7 @@ formed-of s e =
       marks = λ n l. mark-of s n (all-at 64 (markOk s) (search (e, and-left, and-right)) n l);
       last-known = search (e, and-left, and-right);
       bus-known = search (e, and-left, and-right);
+      value-small = ltb-true (s .value) (2 ^ linesOf s) (search (e, and-left, and-right));
     }
   where
     sized : sizedOk s ≡ true
@@ -85,7 +88,8 @@ of-formed s f =
     both _ _ (f .table-good) (both _ _
     (both _ _ (both _ _ (eq-eqb (length (s .waiting)) 64 (f .waiting-size)) (eq-eqb (length (s .counts)) 64 (f .counts-size)))
     (both _ _ (eq-eqb (length (s .batch)) 64 (f .batch-size)) (eq-eqb (length (s .inhibited)) 64 (f .inhibited-size))))
-    (both _ _ (both _ _ (all-each 64 (markOk s) (λ n l. of-mark s n (f .marks n l))) (f .last-known)) (f .bus-known)))
+    (both _ _ (both _ _ (both _ _ (all-each 64 (markOk s) (λ n l. of-mark s n (f .marks n l))) (f .last-known)) (f .bus-known))
+    (lt-ltb (s .value) (2 ^ linesOf s) (f .value-small))))
 
 -- what a well-formed state gives
 module _ (s : RackState) (f : Formed s) where
@@ -141,6 +145,7 @@ fresh-well-formed t good =
       };
       last-known = refl;
       bus-known = refl;
+      value-small = pow-pos (linesBy (t .k) (t .rule));
     })
   where
     nobody : (n : ℕ) → isIn (replicate 64 false) n ≡ true → ⊥

@@ -11,12 +11,13 @@ use lib.Seq.{getD-set-other}
 use borrow.Author.Tests.{lt-ltb, eq-eqb, eqb-true}
 use Rattle.arbiter.proofs.Formed.{Mark, Formed, formed-of, of-formed, same-mark}
 use Rattle.arbiter.proofs.Laws.{winner-count, loser-count, other-count, counts-length, not-full}
+use Rattle.arbiter.proofs.Numbers.{wide, greatest-fits, value-greatest}
 use Rattle.arbiter.proofs.Seen.{NoGrant, refused, full, asked, handed, Seen, seen, quiet, grant}
 use Rattle.arbiter.proofs.Tests.{and-right, both, or-so, set-default, replicate-default}
 use Rattle.arbiter.proofs.Winner.{Won}
-use Rattle.arbiter.specs.Arbitrate.{somePreferred, batchNow, inhibitedNow, someLoserFull, granted, eventOf}
+use Rattle.arbiter.specs.Arbitrate.{somePreferred, batchNow, inhibitedNow, valueNow, someLoserFull, granted, eventOf}
 use Rattle.arbiter.specs.Events.{requested, released}
-use Rattle.arbiter.specs.State.{waits, countOf, inBatch, isCard, wellFormed}
+use Rattle.arbiter.specs.State.{waits, countOf, inBatch, isCard, linesOf, wellFormed}
 use Rattle.arbiter.specs.declared.RackState.{RackState}
 use Rattle.cards.proofs.Below.{same-or-not}
 use Rattle.cards.proofs.TableKnown.{table-card}
@@ -35,6 +36,7 @@ requested-formed s c t new f =
       marks = λ n l. go n (f .marks n l) (same-or-not n c);
       last-known = f .last-known;
       bus-known = f .bus-known;
+      value-small = f .value-small;
     }
   where
     go : (n : ℕ) → Mark s n → (n ≡ c) ⊎ (n ≢ c) → Mark (requested s c) n
@@ -60,6 +62,7 @@ released-formed s c known f =
       marks = λ n l. mark-after n (f .marks n l);
       last-known = f .last-known;
       bus-known = refl;
+      value-small = f .value-small;
     }
   where
     size : (u : Bool) → length (cond u (set (s .inhibited) c true) (s .inhibited)) ≡ length (s .inhibited)
@@ -116,6 +119,10 @@ module _ (s : RackState) (f : Formed s) where
       go : (u : Bool) → isIn (cond u (replicate 64 false) (s .inhibited)) n ≡ true → (isCard s n ≡ true) × (s .table .rule ≡ 4)
       go true t = absurd (false≢true (sym (replicate-default {A = Bool} 64 n false) ∙ t))
       go false t = f .marks n l .barred t
+
+  -- the lines carry what they settle to
+  value-now : valueNow s < 2 ^ linesOf s
+  value-now = rw (value-greatest s f) (greatest-fits s (linesOf s) (wide s f) 64)
 
 -- a grant to w
 module _ (s : RackState) (w : ℕ) (room : someLoserFull s w ≡ false) (won : Won s w) where
@@ -190,6 +197,7 @@ module _ (s : RackState) (w : ℕ) (room : someLoserFull s w ≡ false) (won : W
         marks = mark-after;
         last-known = or-so (eqb w 0) (inTable (s .table .slots) w) (λ _. winner-known);
         bus-known = both (eqb w w) (inTable (s .table .slots) w) (eq-eqb w w refl) winner-known;
+        value-small = value-now s (won .formed);
       }
 
 formed-next : (s : RackState) (letter number : ℕ) → Formed s → Formed (eventOf s letter number .state)

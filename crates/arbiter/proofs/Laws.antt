@@ -11,10 +11,10 @@ use lib.Pow.{pow-mono}
 use lib.Seq.{getD-set-other}
 use borrow.Author.Tests.{leb-false, eq-eqb, ne-eqb}
 use Rattle.arbiter.proofs.Tests.{set-default}
-use Rattle.arbiter.specs.Arbitrate.{linesOf, numberOf, preferred, somePreferred, competes}
+use Rattle.arbiter.specs.Arbitrate.{numberOf, preferred, somePreferred, competes}
 use Rattle.arbiter.specs.Arbitrate.{competingBelow, settlingOf, fullLoser, someLoserFull, oneMore, losersCounted, winnerStopped, granted}
 use Rattle.arbiter.specs.Lent.{marksOf}
-use Rattle.arbiter.specs.State.{waits, countOf}
+use Rattle.arbiter.specs.State.{waits, countOf, linesOf}
 use Rattle.arbiter.specs.declared.RackState.{RackState}
 use Rattle.cards.proofs.Below.{any-false, same-or-not, tabulate-at, tabulate-length}
 use Rattle.cards.specs.Below.{tabulate}
@@ -45,9 +45,9 @@ module _ (s : RackState) (anew : Bool) (is : anew ≡ not (somePreferred s)) whe
       one false c = more none
 
   -- so that it settles as the competing numbers do
-  pub shown-settles : s .table .k ≤ 6 → shownSettling (s .table .k) (s .table .rule) (s .last) anew (marksOf s) ≡ settlingOf s
+  pub shown-settles : s .table .k ≤ 6 → shownSettling (s .table .k) (s .table .rule) (s .last) (s .value) anew (marksOf s) ≡ settlingOf s
   shown-settles small =
-      rw (lines-given (s .table .k) (s .table .rule) small) (result-silent (linesOf s) 13 (shown-silent 64) (rw tabulate-length (omega arith)))
+      rw (lines-given (s .table .k) (s .table .rule) small) (result-silent (linesOf s) (s .value) 13 (shown-silent 64) (rw tabulate-length (omega arith)))
 
 -- ---- the counts after a grant to w
 

@@ -6,19 +6,21 @@ use native.Mathlib.Omega.{arith}
 use mathlib.Core.Bool.{Bool, true, false, cond}
 use mathlib.Core.List.{List, [], _∷_, _++_}
 use mathlib.Core.Logic.{_⊎_, inl, inr}
-use mathlib.Core.Path.{_≡_, refl, _∙_}
+use mathlib.Core.Path.{_≡_, refl, ap, _∙_}
 use lib.Dec.{ltb}
 use lib.Pow.{pow-add, pow-pos}
 use Rattle.arbiter.proofs.Formed.{Formed, formed-width, formed-rule, waiting-below, waiting-card, card-small}
 use Rattle.arbiter.proofs.Laws.{competing-short}
 use Rattle.arbiter.proofs.Tests.{and-left}
-use Rattle.arbiter.specs.Arbitrate.{linesOf, numberOf, competes, competingBelow, competing, settlingOf}
-use Rattle.arbiter.specs.State.{waits, countOf}
+use Rattle.arbiter.specs.Arbitrate.{numberOf, competes, competingBelow, competing, settlingOf, valueNow}
+use Rattle.arbiter.specs.State.{waits, countOf, linesOf}
 use Rattle.arbiter.specs.declared.RackState.{RackState}
 use Rattle.contest.specs.Rules.{byRule, linesBy, numberBy}
 use Rattle.lines.proofs.Refusal.{not-refused}
+use Rattle.lines.proofs.Stages.{settled-greatest}
 use Rattle.lines.specs.Greatest.{greatest}
 use Rattle.lines.specs.Settle.{refusal, done}
+use Rattle.lines.specs.declared.Settled.{Settled}
 
 -- ---- who competes
 
@@ -140,11 +142,18 @@ greatest-fits s m w (suc n) = rw (greatest-more s n) (go (competes s n) refl (gr
     go false t below = omega arith
 
 -- an arbitration's settling is never refused in a well-formed state
-pub settles : (s : RackState) → Formed s → settlingOf s ≡ done (linesOf s) (competing s) 0
+pub settles : (s : RackState) → Formed s → settlingOf s ≡ done (linesOf s) (competing s) (s .value)
 settles s f = rw accepted
   where
-    accepted : refusal (linesOf s) (competing s) 13 ≡ 0
+    accepted : refusal (linesOf s) (competing s) (s .value) 13 ≡ 0
     accepted =
         let w : Wide s (linesOf s) = wide s f in
-        not-refused (linesOf s) (competing s) 13 (w .range .0) (w .range .1) (competing-short s 64)
-        (greatest-fits s (linesOf s) w 64) (omega (arith, w .range))
+        not-refused (linesOf s) (competing s) (s .value) 13 (w .range .0) (w .range .1) (competing-short s 64)
+        (record { fits = greatest-fits s (linesOf s) w 64; small = f .value-small; enough = omega (arith, w .range) })
+
+-- and comes to the greatest competing number, whatever the lines carried before
+pub value-greatest : (s : RackState) → Formed s → valueNow s ≡ greatest (competing s)
+unfolding valueNow
+value-greatest s f =
+    ap (λ (t : Settled). t .lines) (settles s f)
+    ∙ settled-greatest (linesOf s) (competing s) (s .value) (greatest-fits s (linesOf s) (wide s f) 64) (f .value-small)

@@ -6,12 +6,11 @@ use native.Mathlib.Omega.{arith}
 use mathlib.Core.Bool.{Bool, true, false, not, _&&_, _||_}
 use mathlib.Core.Logic.{_⊎_, inl, inr}
 use mathlib.Core.Path.{_≡_, refl, _∙_}
-use lib.Pow.{pow-pos}
 use Rattle.arbiter.proofs.Formed.{Formed, formed-of, waiting-below, waiting-card, card-positive, card-small}
 use Rattle.arbiter.proofs.Numbers.{competitor-waits, wide, greatest-more, greatest-fits, settles}
-use Rattle.arbiter.specs.Arbitrate.{linesOf, numberOf, preferred, waitsPreferred, somePreferred, competes}
+use Rattle.arbiter.specs.Arbitrate.{numberOf, preferred, waitsPreferred, somePreferred, competes}
 use Rattle.arbiter.specs.Arbitrate.{competingBelow, competing, winnerOf}
-use Rattle.arbiter.specs.State.{waits, isCard, wellFormed}
+use Rattle.arbiter.specs.State.{waits, isCard, linesOf, wellFormed}
 use Rattle.arbiter.specs.declared.RackState.{RackState}
 use Rattle.cards.proofs.Below.{le-or-lt, any-not-none, none-any}
 use Rattle.cards.specs.Below.{anyBelow}
@@ -106,7 +105,7 @@ won s ok some = go (formed-of s ok) (top s 64)
         let card : isCard s w ≡ true = waiting-card s f w (competitor-waits s w t) in
         let small : w < 2 ^ s .table .k = card-small s f w l card in
         let same : winnerOf s ≡ w =
-        rw (settles s f, settled-greatest (linesOf s) (competing s) 0 (greatest-fits s (linesOf s) (wide s f) 64) (pow-pos (linesOf s)), p)
+        rw (settles s f, settled-greatest (linesOf s) (competing s) (s .value) (greatest-fits s (linesOf s) (wide s f) 64) (f .value-small), p)
         (wide s f .own w small)
         in
         rw same (record {

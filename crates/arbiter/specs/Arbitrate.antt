@@ -5,19 +5,15 @@ use mathlib.Core.List.{List, [], _∷_, _++_}
 use lib.Dec.{leb, eqb}
 use lib.ListN.{getD, set, replicate}
 use Rattle.arbiter.specs.Events.{answered, answeredBy, requestOf, releaseOf}
-use Rattle.arbiter.specs.State.{waits, countOf, inBatch, isInhibited, isClosed, wellFormed, withMarks, withSets, withBus}
+use Rattle.arbiter.specs.State.{waits, countOf, inBatch, isInhibited, isClosed, linesOf, wellFormed, withMarks, withSets, withBus, withValue}
 use Rattle.arbiter.specs.declared.Bus.the-variants.{Held}
 use Rattle.arbiter.specs.declared.Outcome.{Outcome}
 use Rattle.arbiter.specs.declared.RackState.{RackState}
 use Rattle.cards.specs.Below.{anyBelow, tabulate}
 use Rattle.contest.specs.Marks.{isIn}
-use Rattle.contest.specs.Rules.{linesBy, numberBy, goesFirst}
+use Rattle.contest.specs.Rules.{numberBy, goesFirst}
 use Rattle.lines.specs.Settle.{refusal, settledOr}
 use Rattle.lines.specs.declared.Settled.{Settled}
-
--- how many lines the rule has
-abbrev pub linesOf : RackState → ℕ
-linesOf s = linesBy (s .table .k) (s .table .rule)
 
 -- the competing number of a waiting card a
 unfoldable pub numberOf : RackState → ℕ → ℕ
@@ -53,9 +49,14 @@ competingBelow s (suc n) = competingBelow s n ++ cond (competes s n) (numberOf s
 abbrev pub competing : RackState → List ℕ
 competing s = competingBelow s 64
 
--- what their settling answers, on the rule's lines and with room for 13 stage entries. In a well-formed state it is not refused (`settles`).
+-- what their settling answers, on the rule's lines, which still carry the kept value, and with room for 13 stage entries. In a well-formed state it
+-- is not refused (`settles`).
 abbrev pub settlingOf : RackState → Settled
-settlingOf s = settledOr (refusal (linesOf s) (competing s) 13) (linesOf s) (competing s)
+settlingOf s = settledOr (refusal (linesOf s) (competing s) (s .value) 13) (linesOf s) (competing s) (s .value)
+
+-- the value that the lines settle to, and keep
+unfoldable pub valueNow : RackState → ℕ
+valueNow s = settlingOf s .lines
 
 -- the winner is the settled value modulo 2 ^ k
 abbrev pub winnerOf : RackState → ℕ
@@ -69,7 +70,7 @@ unfoldable pub someLoserFull : RackState → ℕ → Bool
 someLoserFull s w = eqb (s .table .rule) 2 && anyBelow 64 (fullLoser (2 ^ s .table .k - 1) (s .waiting) (s .counts) w)
 
 -- The winner stops waiting, its count becomes 0, it leaves the batch, it holds the bus and is the last winner. Under rule 2 every loser's count
--- grows by 1: losers are the cards that still wait.
+-- grows by 1: losers are the cards that still wait. The lines keep their settled value.
 abbrev pub oneMore : List Bool → List ℕ → ℕ → ℕ
 oneMore waiting counts a = cond (isIn waiting a) (getD counts a 0 + 1) (getD counts a 0)
 
@@ -84,7 +85,9 @@ countsAfter s w = losersCounted (s .table .rule) (winnerStopped s w) (set (s .co
 
 unfoldable pub granted : RackState → ℕ → RackState
 granted s w =
-    withSets (withBus (withMarks s (winnerStopped s w) (countsAfter s w)) w (Held w)) (set (batchNow s) w false) (inhibitedNow s)
+    withValue
+    (withSets (withBus (withMarks s (winnerStopped s w) (countsAfter s w)) w (Held w)) (set (batchNow s) w false) (inhibitedNow s))
+    (valueNow s)
 
 -- the outcome of a grant to w with these settled lines
 abbrev pub grantTo : RackState → ℕ → Settled → Outcome

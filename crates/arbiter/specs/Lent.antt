@@ -27,15 +27,19 @@ stateOf table m hold = record {
   inhibited = m .inhibited;
   last = hold .last;
   bus = hold .bus;
+  value = hold .value;
 }
 
 abbrev pub tableOf : ℕ → ℕ → List ℕ → Table
 tableOf k rule slots = record { k = k; rule = rule; slots = slots }
 
--- what is left of an outcome beside the table and the marks
+-- what is left of a state beside the table and the marks, and of an outcome
+abbrev pub holdOf : RackState → Hold
+holdOf s = record { last = s .last; bus = s .bus; value = s .value }
+
 abbrev pub replyOf : Outcome → Reply
 replyOf o = record {
-  hold = record { last = o .state .last; bus = o .state .bus };
+  hold = holdOf (o .state);
   answer = o .answer;
   winner = o .winner;
   lines = o .lines;

@@ -11,6 +11,7 @@ use Rattle.cards.specs.Below.{allBelow}
 use Rattle.cards.specs.Table.{hasCard, inTable, tableGood}
 use Rattle.cards.specs.declared.Table.{Table}
 use Rattle.contest.specs.Marks.{isIn}
+use Rattle.contest.specs.Rules.{linesBy}
 
 -- the card of that number waits
 abbrev pub waits : RackState → ℕ → Bool
@@ -67,13 +68,21 @@ lastOk s = eqb (s .last) 0 || inTable (s .table .slots) (s .last)
 abbrev pub busOk : RackState → Bool
 busOk s = holderOk (s .table .slots) (s .last) (s .bus)
 
+-- how many lines the rule has
+abbrev pub linesOf : RackState → ℕ
+linesOf s = linesBy (s .table .k) (s .table .rule)
+
+-- the lines carry the kept value: it is at most 2 ^ m - 1 on m lines
+abbrev pub valueOk : RackState → Bool
+valueOk s = ltb (s .value) (2 ^ linesOf s)
+
 -- each array has its 64 places, as every state of the program has
 abbrev pub sizedOk : RackState → Bool
 sizedOk s =
     (eqb (length (s .waiting)) 64 && eqb (length (s .counts)) 64) && (eqb (length (s .batch)) 64 && eqb (length (s .inhibited)) 64)
 
 unfoldable pub wellFormed : RackState → Bool
-wellFormed s = tableGood (s .table) && (sizedOk s && (allBelow 64 (markOk s) && lastOk s && busOk s))
+wellFormed s = tableGood (s .table) && (sizedOk s && (allBelow 64 (markOk s) && lastOk s && busOk s && valueOk s))
 
 -- The next state, by what changes in it.
 
@@ -86,6 +95,7 @@ withMarks s waiting counts = record {
   inhibited = s .inhibited;
   last = s .last;
   bus = s .bus;
+  value = s .value;
 }
 
 abbrev pub withSets : RackState → List Bool → List Bool → RackState
@@ -97,6 +107,7 @@ withSets s batch inhibited = record {
   inhibited = inhibited;
   last = s .last;
   bus = s .bus;
+  value = s .value;
 }
 
 abbrev pub withBus : RackState → ℕ → Bus → RackState
@@ -108,9 +119,22 @@ withBus s last bus = record {
   inhibited = s .inhibited;
   last = last;
   bus = bus;
+  value = s .value;
 }
 
--- freshly loaded: nobody waits, counts 0, the two sets empty, no last winner, bus free
+abbrev pub withValue : RackState → ℕ → RackState
+withValue s value = record {
+  table = s .table;
+  waiting = s .waiting;
+  counts = s .counts;
+  batch = s .batch;
+  inhibited = s .inhibited;
+  last = s .last;
+  bus = s .bus;
+  value = value;
+}
+
+-- freshly loaded: nobody waits, counts 0, the two sets empty, no last winner, bus free, lines at 0
 abbrev pub freshOf : Table → RackState
 freshOf t = record {
   table = t;
@@ -120,4 +144,5 @@ freshOf t = record {
   inhibited = replicate 64 false;
   last = 0;
   bus = Free;
+  value = 0;
 }

@@ -4,7 +4,7 @@ ghost use mathlib.Core.Bool.{Bool, true, cond, not};
 ghost use mathlib.Core.List.{List};
 ghost use mathlib.Core.Path.{_≡_};
 ghost use lib.ListN.{getD};
-ghost use Rattle.arbiter.specs.Arbitrate.{arbitrated, fullLoser, oneMore, somePreferred, someLoserFull, wonBy};
+ghost use Rattle.arbiter.specs.Arbitrate.{arbitrated, fullLoser, oneMore, somePreferred, someLoserFull, valueNow, wonBy};
 ghost use Rattle.arbiter.specs.Lent.{stateOf, tableOf, Leaves};
 ghost use Rattle.arbiter.specs.declared.Hold.{Hold};
 ghost use Rattle.arbiter.specs.declared.RackState.{RackState};
@@ -92,6 +92,7 @@ pub(crate) fn granted_in(
     ensures { λ r. ⌜ ((slots : List ℕ) (s : RackState)
         → s ≡ stateOf (tableOf k rule slots) (marks (now (waiting .entry)) (now (counts .entry)) (now (batch .entry)) (now (inhibited .entry))) hold
         → anew ≡ not (somePreferred s)
+        → t .lines ≡ valueNow s
         → Leaves (wonBy s w t) r (marks (now (waiting .exit)) (now (counts .exit)) (now (batch .exit)) (now (inhibited .exit)))) ⌝ }
 {
     if some_loser_full(k, rule, waiting, counts, w) {
@@ -111,6 +112,7 @@ pub(crate) fn granted_in(
         hold: Hold {
             last: w,
             bus: Bus::Held(w),
+            value: t.lines,
         },
         answer: 0,
         winner: w,
@@ -119,7 +121,8 @@ pub(crate) fn granted_in(
     }
 }
 
-// The outcome of the settling, on the lent marks. The winner is the settled value modulo 2 ^ k. A state whose settling is refused is not well formed.
+// The outcome of the settling, which starts from the kept value, on the lent marks. The winner is the settled value modulo 2 ^ k. A state whose
+// settling is refused is not well formed.
 pub(crate) fn arbitrated_in(
     hold: Hold,
     k: u8,
@@ -136,7 +139,17 @@ pub(crate) fn arbitrated_in(
         (marks (now (waiting .exit)) (now (counts .exit)) (now (batch .exit)) (now (inhibited .exit)))) ⌝ }
 {
     let anew = !some_first(rule, waiting, batch, inhibited);
-    let t = settling_of(k, rule, hold.last, anew, waiting, counts, batch, inhibited);
+    let t = settling_of(
+        k,
+        rule,
+        hold.last,
+        hold.value,
+        anew,
+        waiting,
+        counts,
+        batch,
+        inhibited,
+    );
     if t.answer != 0 {
         return quiet(hold, 17);
     }

@@ -24,8 +24,8 @@ pub enum Bus {
     Held(u8),
 }
 
-// The state: the table, who waits, the waiting counts, the batch (rule 3), who is inhibited (rule 4), the last winner (0 for none yet), and the bus.
-// Arrays go by arbitration number.
+// The state: the table, who waits, the waiting counts, the batch (rule 3), who is inhibited (rule 4), the last winner (0 for none yet), the bus, and
+// the value that the lines settled to last, which they still carry (0 for none yet). Arrays go by arbitration number.
 pub struct RackState {
     pub table: Table,
     pub waiting: [bool; 64],
@@ -34,12 +34,14 @@ pub struct RackState {
     pub inhibited: [bool; 64],
     pub last: u8,
     pub bus: Bus,
+    pub value: u16,
 }
 
-// The last winner and the bus: what is left of a state beside its table and its marks.
+// The last winner, the bus and the kept value: what is left of a state beside its table and its marks.
 pub struct Hold {
     pub last: u8,
     pub bus: Bus,
+    pub value: u16,
 }
 
 // What an event on lent marks gives: an outcome without the table and the marks.
@@ -80,6 +82,7 @@ pub fn state_of(
         inhibited,
         last: hold.last,
         bus,
+        value: hold.value,
     }
 }
 
@@ -130,12 +133,13 @@ pub fn release_in(
         Hold {
             last: hold.last,
             bus: Bus::Free,
+            value: hold.value,
         },
         0,
     )
 }
 
-// The competing cards settle, and the winner holds the bus: 17, 13, 14 and 16, or 0.
+// The competing cards settle, from the value that the lines keep, and the winner holds the bus: 17, 13, 14 and 16, or 0.
 pub fn arbitrate_in(
     formed: bool,
     k: u8,

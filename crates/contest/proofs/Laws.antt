@@ -72,6 +72,16 @@ pub lines-given : (k rule : ℕ) → k ≤ 6 → linesGiven k rule ≡ linesBy k
 unfolding linesGiven
 lines-given k rule small = rw (le-leb k 6 small)
 
+-- never more than 12
+pub lines-most : (k rule : ℕ) → k ≤ 6 → linesBy k rule ≤ 12
+unfolding linesBy byRule
+lines-most k zero small = omega arith
+lines-most k (suc zero) small = omega arith
+lines-most k (suc (suc zero)) small = omega arith
+lines-most k (suc (suc (suc zero))) small = omega arith
+lines-most k (suc (suc (suc (suc zero)))) small = omega arith
+lines-most k (suc (suc (suc (suc (suc rule))))) small = omega arith
+
 pub span-of : (k : ℕ) → k ≤ 6 → spanOf k ≡ 2 ^ k
 unfolding spanOf
 span-of k small = rw (le-leb k 6 small)
@@ -91,14 +101,14 @@ span-top k = go (le-or-lt k 6)
     go (inr wide) = rw (lt-leb k 6 wide) (refl, (omega arith, omega arith))
 
 -- on no lines every list is refused, so that what is shown matters only for a width of at most 6
-pub settled-as-shown : (k rule : ℕ) (numbers shown : List ℕ) → (k ≤ 6 → numbers ≡ shown)
-    → settledOr (refusal (linesGiven k rule) numbers 13) (linesGiven k rule) numbers
-    ≡ settledOr (refusal (linesGiven k rule) shown 13) (linesGiven k rule) shown
+pub settled-as-shown : (k rule : ℕ) (numbers shown : List ℕ) (start : ℕ) → (k ≤ 6 → numbers ≡ shown)
+    → settledOr (refusal (linesGiven k rule) numbers start 13) (linesGiven k rule) numbers start
+    ≡ settledOr (refusal (linesGiven k rule) shown start 13) (linesGiven k rule) shown start
 unfolding linesGiven refusal
-settled-as-shown k rule numbers shown same = go (le-or-lt k 6)
+settled-as-shown k rule numbers shown start same = go (le-or-lt k 6)
   where
     go : (k ≤ 6) ⊎ (6 < k)
-        → settledOr (refusal (linesGiven k rule) numbers 13) (linesGiven k rule) numbers
-        ≡ settledOr (refusal (linesGiven k rule) shown 13) (linesGiven k rule) shown
+        → settledOr (refusal (linesGiven k rule) numbers start 13) (linesGiven k rule) numbers start
+        ≡ settledOr (refusal (linesGiven k rule) shown start 13) (linesGiven k rule) shown start
     go (inl small) = rw (same small)
     go (inr wide) = rw (lt-leb k 6 wide)

@@ -20,7 +20,8 @@ shownAt k rule last anew m a =
     (cond (goesFirst rule (isIn (m .batch) a) (isIn (m .inhibited) a) || anew) (numberBy k rule last (getD (m .counts) a 0) a) 0)
     0
 
--- the settling of what all cards show, which is refused with 21 for a width that no table has
-abbrev pub shownSettling : ℕ → ℕ → ℕ → Bool → Marks → Settled
-shownSettling k rule last anew m =
-    let shown = tabulate 64 (shownAt k rule last anew m) in settledOr (refusal (linesGiven k rule) shown 13) (linesGiven k rule) shown
+-- the settling of what all cards show, on lines that carry `start`; it is refused with 21 for a width that no table has
+abbrev pub shownSettling : ℕ → ℕ → ℕ → ℕ → Bool → Marks → Settled
+shownSettling k rule last start anew m =
+    let shown = tabulate 64 (shownAt k rule last anew m) in
+    settledOr (refusal (linesGiven k rule) shown start 13) (linesGiven k rule) shown start

@@ -4,11 +4,10 @@ ghost use Prim.Native.Nat.{_≤_};
 ghost use mathlib.Core.Path.{_≡_};
 ghost use Rattle.cards.specs.Below.{anyBelow};
 ghost use Rattle.contest.specs.Marks.{isIn, marks};
-ghost use Rattle.contest.specs.Rules.{spanOf};
+ghost use Rattle.contest.specs.Rules.{linesGiven, spanOf};
 ghost use Rattle.contest.specs.Shown.{firstAt, shownSettling};
 use lines::Settled;
 use offers::goes_first;
-use offers::lines_of;
 use offers::numbers_of;
 
 mod offers;
@@ -18,6 +17,23 @@ pub fn span(k: u8) -> u16
     ensures { λ r. ⌜ (r ≡ spanOf k) × ((1 ≤ r) × (r ≤ 64)) ⌝ }
 {
     (cards::top_number(k) as u16) + 1
+}
+
+// How many lines the rule has. A width that no table has gets none, nor does another rule: no settling takes 0 lines.
+pub fn lines_of(k: u8, rule: u8) -> u8
+    ensures { λ r. ⌜ r ≡ linesGiven k rule ⌝ }
+{
+    if 6 < k {
+        return 0;
+    }
+    match rule {
+        0 => k,
+        1 => k + 1,
+        2 => k * 2,
+        3 => k,
+        4 => k,
+        _ => 0,
+    }
 }
 
 // Whether some card is marked.
@@ -52,22 +68,23 @@ pub fn some_first(
     some
 }
 
-// The settling of what each card shows the lines. A width that no table has is refused with 21, since it has no lines.
+// The settling of what each card shows the lines, which carry `start`. A width that no table has is refused with 21, since it has no lines.
 pub fn settling_of(
     k: u8,
     rule: u8,
     last: u8,
+    start: u16,
     anew: bool,
     waiting: &[bool; 64],
     counts: &[u8; 64],
     batch: &[bool; 64],
     inhibited: &[bool; 64],
 ) -> Settled
-    ensures { λ r. ⌜ r ≡ shownSettling k rule last anew
+    ensures { λ r. ⌜ r ≡ shownSettling k rule last start anew
         (marks (now (waiting .entry)) (now (counts .entry)) (now (batch .entry)) (now (inhibited .entry))) ⌝ }
 {
     let m = lines_of(k, rule);
     let numbers = numbers_of(rule, span(k), last, waiting, counts, anew, batch, inhibited);
     let mut stages = [0u16; 13];
-    lines::settle(m, &numbers, &mut stages)
+    lines::settle(m, start, &numbers, &mut stages)
 }

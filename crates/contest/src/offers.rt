@@ -1,29 +1,12 @@
-// What the rule makes of a card: how many lines there are, whether the card goes first, and what it shows.
+// What the rule makes of a card: whether it goes first, and what it shows.
 ghost use Prim.Native.Nat.{ℕ, _^_, _≤_, _<_};
 ghost use mathlib.Core.Bool.{cond, _||_};
 ghost use mathlib.Core.Path.{_≡_};
 ghost use lib.Dec.{eqb};
 ghost use Rattle.cards.specs.Below.{tabulate};
 ghost use Rattle.contest.specs.Marks.{marks};
-ghost use Rattle.contest.specs.Rules.{linesGiven, numberBy, goesFirst};
+ghost use Rattle.contest.specs.Rules.{numberBy, goesFirst};
 ghost use Rattle.contest.specs.Shown.{shownAt};
-
-// How many lines the rule has. A width that no table has gets none, nor does another rule: no settling takes 0 lines.
-pub(crate) fn lines_of(k: u8, rule: u8) -> u8
-    ensures { λ r. ⌜ r ≡ linesGiven k rule ⌝ }
-{
-    if 6 < k {
-        return 0;
-    }
-    match rule {
-        0 => k,
-        1 => k + 1,
-        2 => k * 2,
-        3 => k,
-        4 => k,
-        _ => 0,
-    }
-}
 
 // Whether a card goes first: by the batch only a card of it does, by inhibition only one that is not inhibited.
 pub(crate) fn goes_first(batches: bool, inhibits: bool, batched: bool, inhibited: bool) -> bool

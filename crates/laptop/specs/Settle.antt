@@ -8,15 +8,15 @@ use Rattle.lines.specs.Settle.{refusal}
 use Rattle.lines.specs.Settling.{stages, trail}
 
 -- t, or 100 plus the refusal
-abbrev pub codeOr : ℕ → ℕ → List ℕ → ℕ
-codeOr zero m numbers = stages m numbers 0
-codeOr (suc refused) m numbers = 100 + suc refused
+abbrev pub codeOr : ℕ → ℕ → List ℕ → ℕ → ℕ
+codeOr zero m numbers start = stages m numbers start
+codeOr (suc refused) m numbers start = 100 + suc refused
 
 -- the lines after stages 0 to t, two bytes for each, and the rest as it was; a refusal writes nothing
-abbrev pub bytesOr : ℕ → ℕ → List ℕ → List ℕ → List ℕ
-bytesOr zero m numbers buffer = bytes (trail m numbers 0 (stages m numbers 0)) ++ drop (2 * suc (stages m numbers 0)) buffer
-bytesOr (suc refused) m numbers buffer = buffer
+abbrev pub bytesOr : ℕ → ℕ → List ℕ → ℕ → List ℕ → List ℕ
+bytesOr zero m numbers start buffer = bytes (trail m numbers start (stages m numbers start)) ++ drop (2 * suc (stages m numbers start)) buffer
+bytesOr (suc refused) m numbers start buffer = buffer
 
-pub record SettlesBytes (m : ℕ) (numbers buffer : List ℕ) (r : ℕ) (last : List ℕ) : Type 0 where
-  pub result : r ≡ codeOr (refusal m (words numbers) (length buffer / 2)) m (words numbers)
-  pub left : last ≡ bytesOr (refusal m (words numbers) (length buffer / 2)) m (words numbers) buffer
+pub record SettlesBytes (m : ℕ) (numbers : List ℕ) (start : ℕ) (buffer : List ℕ) (r : ℕ) (last : List ℕ) : Type 0 where
+  pub result : r ≡ codeOr (refusal m (words numbers) start (length buffer / 2)) m (words numbers) start
+  pub left : last ≡ bytesOr (refusal m (words numbers) start (length buffer / 2)) m (words numbers) start buffer

@@ -12,26 +12,27 @@ mod settling;
 mod table;
 mod words;
 
-// Settles m lines, with the competing numbers and the stage entries as bytes: t, or 100 plus the refusal.
-fn settle_bytes(m: u8, numbers: &[u8], stages: &mut [u8]) -> u32
-    ensures { λ r. ⌜ SettlesBytes m (now (numbers .entry)) (now (stages .entry)) r (now (stages .exit)) ⌝ }
+// Settles m lines, with the competing numbers and the stage entries as bytes: t, or 100 plus the refusal. A start is cut to 16 bits only once it is
+// known to fit the lines.
+fn settle_bytes(m: u8, numbers: &[u8], stages: &mut [u8], start: u32) -> u32
+    ensures { λ r. ⌜ SettlesBytes m (now (numbers .entry)) start (now (stages .entry)) r (now (stages .exit)) ⌝ }
 {
-    let refused = refusal_of(m, numbers, stages.len() / 2);
+    let refused = refusal_of(m, numbers, start, stages.len() / 2);
     if refused != 0 {
         return 100 + (refused as u32);
     }
-    run(m, numbers, stages) as u32
+    run(m, numbers, start as u16, stages) as u32
 }
 
-// Settles m lines for C: t, or 100 plus the refusal. Any m over 12 is refused, and so none is cut to a byte.
+// Settles m lines, which carry `start`, for C: t, or 100 plus the refusal. Any m over 12 is refused, and so none is cut to a byte.
 #[no_mangle]
-pub extern "C" fn rack_settle(m: u32, numbers: &[u8], stages: &mut [u8]) -> u32
-    ensures { λ r. ⌜ SettlesBytes m (now (numbers .entry)) (now (stages .entry)) r (now (stages .exit)) ⌝ }
+pub extern "C" fn rack_settle(m: u32, numbers: &[u8], stages: &mut [u8], start: u32) -> u32
+    ensures { λ r. ⌜ SettlesBytes m (now (numbers .entry)) start (now (stages .entry)) r (now (stages .exit)) ⌝ }
 {
     if 12 < m {
         return 121;
     }
-    settle_bytes(m as u8, numbers, stages)
+    settle_bytes(m as u8, numbers, stages, start)
 }
 
 // Checks the table of a file for C: the refusal, or 0.

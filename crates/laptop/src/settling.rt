@@ -22,18 +22,23 @@ fn some_from(numbers: &[u8], limit: u16) -> bool
 }
 
 // The first refusal that fits, or 0.
-pub(crate) fn refusal_of(m: u8, numbers: &[u8], room: usize) -> u8
-    ensures { λ r. ⌜ r ≡ refusal m (words (now (numbers .entry))) room ⌝ }
+pub(crate) fn refusal_of(m: u8, numbers: &[u8], start: u32, room: usize) -> u8
+    ensures { λ r. ⌜ r ≡ refusal m (words (now (numbers .entry))) start room ⌝ }
 {
     let size = lines::refusal_of_size(m, numbers.len() / 2);
     if size != 0 {
         return size;
     }
-    if some_from(numbers, 1 << m) {
+    let limit: u16 = 1 << m;
+    let most = (limit - 1) as u32;
+    if some_from(numbers, limit) {
         return 23;
     }
     if room <= m as usize {
         return 24;
+    }
+    if most < start {
+        return 25;
     }
     0
 }
@@ -50,16 +55,17 @@ fn next_stage(numbers: &[u8], lines: u16) -> u16
     joined
 }
 
-// Stage after stage from lines at 0, until two neighbouring ones agree: t. At most m stages change a line, so the loop takes at most m + 1 turns.
-pub(crate) fn run(m: u8, numbers: &[u8], stages: &mut [u8]) -> u8
-    requires { ⌜ Accepted m (words (now numbers)) 0 (length (now stages) / 2) ⌝ }
+// Stage after stage from the lines `start`, until two neighbouring ones agree: t. At most m stages change a line, so the loop takes at most m + 1
+// turns.
+pub(crate) fn run(m: u8, numbers: &[u8], start: u16, stages: &mut [u8]) -> u8
+    requires { ⌜ Accepted m (words (now numbers)) start (length (now stages) / 2) ⌝ }
     ensures { λ r.
-        ⌜ (r ≡ codeOr 0 m (words (now (numbers .entry))))
-        × (now (stages .exit) ≡ bytesOr 0 m (words (now (numbers .entry))) (now (stages .entry))) ⌝ }
+        ⌜ (r ≡ codeOr 0 m (words (now (numbers .entry))) start)
+        × (now (stages .exit) ≡ bytesOr 0 m (words (now (numbers .entry))) start (now (stages .entry))) ⌝ }
 {
     let mut t: u8 = 0;
-    let mut lines: u16 = 0;
-    put_word(0, 0, stages);
+    let mut lines = start;
+    put_word(start, 0, stages);
     loop {
         let next = next_stage(numbers, lines);
         if next == lines {

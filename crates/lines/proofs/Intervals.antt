@@ -1,7 +1,9 @@
 -- How many stages at most. Each run of equal bits of the greatest number costs one stage: once the lines above a run carry the greatest number's
--- bits, the next stage gives the whole run. So from 0 the stages are at most the interval-number, and from any start one more. Assumes nothing.
-use Prim.Native.Nat.{ℕ, zero, suc, _+_, _/_, _%_, _^_, _≤_, _<_}
-use native.Mathlib.Nat.{add-assoc, add-zero, eq-or-lt-of-le, eq-zero-or-pos, le-of-suc-le-suc, le-refl, lt-of-not-le, pow-suc}
+-- bits, the next stage gives the whole run. So from 0 the stages are at most the interval-number, and from any start one more: the start may set
+-- lines where the greatest number has its leading zeros, which are no run, and a stage goes to clear them. A greatest number with its top line set
+-- has none of these. Assumes nothing.
+use Prim.Native.Nat.{ℕ, zero, suc, _+_, _-_, _/_, _%_, _^_, _≤_, _<_}
+use native.Mathlib.Nat.{add-assoc, add-zero, div-eq-of-lt, eq-or-lt-of-le, eq-zero-or-pos, le-of-suc-le-suc, le-refl, lt-of-not-le, pow-suc}
 use native.Mathlib.Numerals.{add-one}
 use native.Mathlib.Omega.{arith}
 use mathlib.Core.Bool.{Bool, true, false, cond}
@@ -13,10 +15,11 @@ use lib.Pow.{pow-pos}
 use borrow.Author.Tests.{le-ltb, eqb-true}
 use Rattle.lines.proofs.Greatest.{half-mono, outbid-self, outbid-less, LowRight, stage-low, above-right, greatest-half, reaches}
 use Rattle.lines.proofs.Halves.{halves, kept-le, applied-low, lines-half}
-use Rattle.lines.proofs.Runs.{intervals-more}
+use Rattle.lines.proofs.Runs.{intervals-zero, intervals-more, intervals-none}
 use Rattle.lines.proofs.Stages.{stages-least}
 use Rattle.lines.specs.Greatest.{greatest}
 use Rattle.lines.specs.Intervals.{intervalNumber}
+use Rattle.lines.specs.Line.{line}
 use Rattle.lines.specs.Settling.{outbid, linesAt, stages}
 
 -- The lines are ready for more bits of the run that `top` ends in: `top` is not outbid if it is a run of ones, and each lower number is if it is one
@@ -106,26 +109,54 @@ module _ (m : ℕ) (numbers : List ℕ) (start k : ℕ) (from : From m (halves n
       carries (suc t) h =
           omega (arith, stage-low m (lines t) numbers (above-right m (lines t) top fits (above t (omega arith))), above (suc t) (omega arith))
 
-  one-more : (k ≡ 0 → start ≡ 0) → top < 2 ^ suc m → From (suc m) numbers start (k + cond (eqb (top / 2 % 2) (top % 2)) 0 1)
+  one-more : (k ≡ 0 → top / 2 % 2 ≡ top % 2 → start ≡ 0) → top < 2 ^ suc m
+      → From (suc m) numbers start (k + cond (eqb (top / 2 % 2) (top % 2)) 0 1)
   one-more clear fits = go (eqb (top / 2 % 2) (top % 2)) refl
     where
       go : (b : Bool) → eqb (top / 2 % 2) (top % 2) ≡ b → From (suc m) numbers start (k + cond b 0 1)
-      go true e = rw add-zero (run-on clear (eqb-true _ _ e))
+      go true e =
+          let same = eqb-true _ _ e in
+          rw add-zero (run-on (λ none. clear none same) same)
       go false e = rw add-one (run-new fits)
 
--- ---- all lines: in as many stages as the interval-number and `late` more; only a start from 0 is not late
+-- ---- all lines: in as many stages as the interval-number and `late` more
 
-carried : (m : ℕ) (numbers : List ℕ) (start late : ℕ) → (late ≡ 0 → start ≡ 0) → greatest numbers < 2 ^ m → start < 2 ^ m
+-- not late is a start from 0, or any where the greatest number has its top line set; with no line there is none to set
+abbrev InTime : ℕ → ℕ → ℕ → Type 0
+InTime m top start = (start ≡ 0) ⊎ (2 ^ m / 2 ≤ top)
+
+in-time-above : (m top start : ℕ) → InTime (suc m) top start → InTime m (top / 2) (start / 2)
+in-time-above m top start = ⊎-elim (λ (z : start ≡ 0). inl (omega arith)) (λ (h : 2 ^ suc m / 2 ≤ top). inr (omega (arith, pow-suc 2 m)))
+
+-- a greatest number of 0 has no line set, so that only a start from 0 is in time
+in-time-none : (m top start : ℕ) → InTime (suc m) top start → top ≡ 0 → start ≡ 0
+in-time-none m top start in-time none =
+    ⊎-elim (λ (z : start ≡ 0). z) (λ (h : 2 ^ suc m / 2 ≤ top). absurd (omega (arith, pow-suc 2 m, pow-pos m))) in-time
+
+carried : (m : ℕ) (numbers : List ℕ) (start late : ℕ) → (late ≡ 0 → InTime m (greatest numbers) start) → greatest numbers < 2 ^ m → start < 2 ^ m
     → From m numbers start (late + intervalNumber m (greatest numbers))
-carried zero numbers start late clear fits small = record {
+carried zero numbers start late in-time fits small = record {
   carries = λ t h. reaches 0 numbers start t fits small (omega arith);
   ready = λ t h. record { ones = λ odd. absurd (omega arith); zeros = λ even own le. inl (omega arith) };
 }
-carried (suc m) numbers start late clear fits small =
-    let half = carried m (halves numbers) (start / 2) late (λ e. omega (arith, clear e)) (rw greatest-half (omega (arith, pow-suc 2 m)))
-    (omega (arith, pow-suc 2 m)) in
-    rw (intervals-more m (greatest numbers) fits, ← add-assoc late _ _)
-    (one-more m numbers start (late + intervalNumber m (greatest numbers / 2)) (rw (greatest-half numbers) at half) (λ e. clear (omega arith)) fits)
+carried (suc m) numbers start late in-time fits small =
+    let top : ℕ = greatest numbers in
+    let high : top / 2 < 2 ^ m = omega (arith, pow-suc 2 m) in
+    let half = carried m (halves numbers) (start / 2) late (λ e. rw greatest-half (in-time-above m top start (in-time e)))
+    (rw greatest-half high) (omega (arith, pow-suc 2 m)) in
+    let clear : late + intervalNumber m (top / 2) ≡ 0 → top / 2 % 2 ≡ top % 2 → start ≡ 0 =
+    λ none same. in-time-none m top start (in-time (omega arith)) (omega (arith, intervals-none m (top / 2) high (omega arith))) in
+    rw (intervals-more m top fits, ← add-assoc late _ _)
+    (one-more m numbers start (late + intervalNumber m (top / 2)) (rw (greatest-half numbers) at half) clear fits)
+
+-- the top line of m is set from half of 2 ^ m up
+top-half : (m top : ℕ) → line (m - 1) top ≡ 1 → 2 ^ m / 2 ≤ top
+top-half zero top set = omega arith
+top-half (suc m) top set =
+    let last : suc m - 1 ≡ m = omega arith in
+    let bit : line m top ≡ 1 = rw last at set in
+    let up : 2 ^ m ≤ top = le-of-suc-le-suc (lt-of-not-le (λ below. absurd (omega (arith, bit, div-eq-of-lt below)))) in
+    omega (arith, up, pow-suc 2 m)
 
 -- ---- the promises
 
@@ -137,8 +168,19 @@ module _ (m : ℕ) (numbers : List ℕ) (fits : greatest numbers < 2 ^ m) where
 
   -- from 0: no more stages than the interval-number of the greatest number
   pub stages-intervals : stages m numbers 0 ≤ intervalNumber m (greatest numbers)
-  stages-intervals = omega (arith, stages-by 0 _ (pow-pos m) (carried m numbers 0 0 (λ _. refl) fits (pow-pos m)))
+  stages-intervals = omega (arith, stages-by 0 _ (pow-pos m) (carried m numbers 0 0 (λ _. inl refl) fits (pow-pos m)))
 
   -- from any start: one more at most
   pub stages-any : (start : ℕ) → start < 2 ^ m → stages m numbers start ≤ intervalNumber m (greatest numbers) + 1
   stages-any start small = omega (arith, stages-by start _ small (carried m numbers start 1 (λ none. absurd (omega arith)) fits small))
+
+  -- and none where the greatest number has its top line set
+  pub stages-topped : (start : ℕ) → start < 2 ^ m → line (m - 1) (greatest numbers) ≡ 1 → stages m numbers start ≤ intervalNumber m (greatest numbers)
+  stages-topped start small top =
+      omega (arith, stages-by start _ small (carried m numbers start 0 (λ _. inr (top-half m (greatest numbers) top)) fits small))
+
+  -- nobody competes, or only zeros
+  pub stages-nobody : (start : ℕ) → start < 2 ^ m → greatest numbers ≡ 0 → stages m numbers start ≤ 1
+  stages-nobody start small none =
+      let any = rw none at (stages-any start small) in
+      omega (arith, any, intervals-zero m)

@@ -1,5 +1,5 @@
 -- The refusals: a search through the competing numbers, and what holds where nothing is refused. Assumes nothing.
-use Prim.Native.Nat.{ℕ, zero, suc, _+_, _*_, _%_, _^_, _≤_, _<_}
+use Prim.Native.Nat.{ℕ, zero, suc, _+_, _-_, _*_, _%_, _^_, _≤_, _<_}
 use native.Mathlib.Nat.{one-mul}
 use native.Mathlib.Numerals.{add-one}
 use native.Mathlib.Omega.{arith}
@@ -8,9 +8,9 @@ use mathlib.Core.List.{List, [], _∷_}
 use mathlib.Core.Path.{_≡_, refl, sym, ap, _∙_}
 use lib.Dec.{leb, ltb, eqb, lit<}
 use lib.ListN.{length, getD, drop, replicate, drop-of-length-le, length-replicate}
-use lib.Pow.{pow-pos, shl-exact}
+use lib.Pow.{pow-mono, pow-pos, shl-exact}
 use lib.Seq.{drop-cons}
-use borrow.Author.Tests.{lt-leb, leb-false, le-ltb, ltb-false, ne-eqb}
+use borrow.Author.Tests.{le-leb, lt-leb, leb-false, lt-ltb, le-ltb, ltb-false, ne-eqb}
 use Rattle.lines.specs.Greatest.{greatest}
 use Rattle.lines.specs.Settle.{someFrom, refusal, Accepted, Settles, Ran}
 use Rattle.lines.specs.declared.Settled.{Settled}
@@ -53,29 +53,43 @@ pub after : (b : Bool) (r rest : ℕ) → cond b (suc r) rest ≡ 0 → rest ≡
 after true r rest e = absurd (omega arith)
 after false r rest e = e
 
-zeros-greatest : (count : ℕ) → greatest (replicate count 0) ≡ 0
+pub zeros-greatest : (count : ℕ) → greatest (replicate count 0) ≡ 0
 unfolding greatest
 zeros-greatest zero = refl
 zeros-greatest (suc count) = omega (arith, zeros-greatest count)
 
+at-most : (m rest : ℕ) → cond (eqb m 0 || ltb 12 m) 21 rest ≡ 0 → m ≤ 12
+at-most m rest e = ltb-false 12 m (neither (eqb m 0) (ltb 12 m) (passed (eqb m 0 || ltb 12 m) 20 rest e) .1)
+
+-- 2 ^ m as the code works it out, in 16 bits
+abbrev pub limitOf : ℕ → ℕ
+limitOf m = 1 * 2 ^ m % 2 ^ 16
+
+-- what is refused behind the numbers, for the room and then the start
+abbrev leftOver : ℕ → ℕ → ℕ → ℕ
+leftOver m start room = cond (leb room m) 24 (cond (ltb (limitOf m - 1) start) 25 0)
+
+abbrev pub Past : ℕ → List ℕ → Type 0
+Past m numbers = (start room : ℕ) → refusal m numbers start room ≡ leftOver m start room
+
 -- what is refused for m and the count of the numbers, whatever they are
-pub size-is : (m count : ℕ) → refusal m (replicate count 0) (suc m) ≡ cond (eqb m 0 || ltb 12 m) 21 (cond (ltb 64 count) 22 0)
+pub size-is : (m count : ℕ) → refusal m (replicate count 0) 0 (suc m) ≡ cond (eqb m 0 || ltb 12 m) 21 (cond (ltb 64 count) 22 0)
 unfolding refusal
 size-is m count =
     let none = all-below (2 ^ m) (replicate count 0) (rw zeros-greatest (pow-pos m)) in
-    rw (length-replicate, none, lt-leb (suc m) m (omega arith))
+    rw (length-replicate, none, lt-leb (suc m) m (omega arith), le-ltb (2 ^ m - 1) 0 (omega arith))
 
--- and it comes before what is refused for the numbers and the room
-module _ (m : ℕ) (numbers : List ℕ) (size : ℕ) (is : size ≡ refusal m (replicate (length numbers) 0) (suc m)) where
+-- and it comes before what is refused for the numbers, the room and the start
+module _ (m : ℕ) (numbers : List ℕ) (size : ℕ) (is : size ≡ refusal m (replicate (length numbers) 0) 0 (suc m)) where
   spelled : size ≡ cond (eqb m 0 || ltb 12 m) 21 (cond (ltb 64 (length numbers)) 22 0)
   spelled = is ∙ size-is m (length numbers)
 
-  pub size-refused : (room : ℕ) → (size ≡ 0 → ⊥) → size ≡ refusal m numbers room
+  pub size-refused : (start room : ℕ) → (size ≡ 0 → ⊥) → size ≡ refusal m numbers start room
   unfolding refusal
-  size-refused room some = go (eqb m 0 || ltb 12 m) (ltb 64 (length numbers)) spelled
+  size-refused start room some = go (eqb m 0 || ltb 12 m) (ltb 64 (length numbers)) spelled
     where
       go : (a b : Bool) → size ≡ cond a 21 (cond b 22 0)
-          → size ≡ cond a 21 (cond b 22 (cond (someFrom (2 ^ m) numbers) 23 (cond (leb room m) 24 0)))
+          → size ≡ cond a 21 (cond b 22 (cond (someFrom (2 ^ m) numbers) 23 (cond (leb room m) 24 (cond (ltb (2 ^ m - 1) start) 25 0))))
       go true b e = e
       go false true e = e
       go false false e = absurd (some e)
@@ -85,53 +99,85 @@ module _ (m : ℕ) (numbers : List ℕ) (size : ℕ) (is : size ≡ refusal m (r
     nothing = sym spelled ∙ none
 
     pub at-most-twelve : m ≤ 12
-    at-most-twelve = ltb-false 12 m (neither (eqb m 0) (ltb 12 m) (passed (eqb m 0 || ltb 12 m) 20 _ nothing) .1)
+    at-most-twelve = at-most m _ nothing
 
-    -- the search for a number that is too great, and the room: what is left of the refusal
-    pub size-passed : (found : Bool) → someFrom (1 * 2 ^ m % 2 ^ 16) numbers ≡ found → (room : ℕ)
-        → refusal m numbers room ≡ cond found 23 (cond (leb room m) 24 0)
+    power : limitOf m ≡ 2 ^ m
+    power = shl-exact 1 m 16 (lit< tt) (omega (arith, at-most-twelve)) ∙ one-mul (2 ^ m)
+
+    pub limit-some : 1 ≤ limitOf m
+    limit-some = omega (arith, power, pow-pos m)
+
+    -- the search for a number that is too great, and what is left behind it
+    size-passed : (found : Bool) → someFrom (limitOf m) numbers ≡ found → (start room : ℕ)
+        → refusal m numbers start room ≡ cond found 23 (leftOver m start room)
     unfolding refusal
-    size-passed found searched room =
-        let power : 1 * 2 ^ m % 2 ^ 16 ≡ 2 ^ m = shl-exact 1 m 16 (lit< tt) (omega (arith, at-most-twelve)) ∙ one-mul (2 ^ m) in
+    size-passed found searched start room =
         let over : someFrom (2 ^ m) numbers ≡ found = sym (ap (λ (limit : ℕ). someFrom limit numbers) power) ∙ searched in
         rw (
           passed (eqb m 0 || ltb 12 m) 20 _ nothing,
           passed (ltb 64 (length numbers)) 21 _ (after (eqb m 0 || ltb 12 m) 20 _ nothing),
+          power,
           over,
         )
 
--- nothing is refused: a run from 0 may count on what it asks
-pub accepted : (m : ℕ) (numbers : List ℕ) (room : ℕ) → refusal m numbers room ≡ 0 → Accepted m numbers 0 room
+    pub number-refused : someFrom (limitOf m) numbers ≡ true → (start room : ℕ) → 23 ≡ refusal m numbers start room
+    number-refused found start room = sym (size-passed true found start room)
+
+    pub numbers-passed : someFrom (limitOf m) numbers ≡ false → Past m numbers
+    numbers-passed found = size-passed false found
+
+module _ (m : ℕ) (numbers : List ℕ) (past : Past m numbers) (start room : ℕ) where
+  pub room-refused : room ≤ m → 24 ≡ refusal m numbers start room
+  room-refused short = sym (past start room ∙ rw (le-leb room m short))
+
+  room-passed : (over : Bool) → m < room → ltb (limitOf m - 1) start ≡ over → cond over 25 0 ≡ refusal m numbers start room
+  room-passed over enough is = sym (past start room ∙ rw (lt-leb room m enough, is))
+
+  pub start-refused : m < room → limitOf m - 1 < start → 25 ≡ refusal m numbers start room
+  start-refused enough over = room-passed true enough (lt-ltb (limitOf m - 1) start over)
+
+  pub none-refused : m < room → start ≤ limitOf m - 1 → 0 ≡ refusal m numbers start room
+  none-refused enough within = room-passed false enough (le-ltb (limitOf m - 1) start within)
+
+-- nothing is refused: a run may count on what it asks
+pub accepted : (m : ℕ) (numbers : List ℕ) (start room : ℕ) → refusal m numbers start room ≡ 0 → Accepted m numbers start room
 unfolding refusal
-accepted m numbers room e =
+accepted m numbers start room e =
     let counted = after (eqb m 0 || ltb 12 m) 20 _ e in
-    let small = after (ltb 64 (length numbers)) 21 _ counted in
+    let below = after (ltb 64 (length numbers)) 21 _ counted in
+    let roomy = after (someFrom (2 ^ m) numbers) 22 _ below in
     record {
-      small = pow-pos m;
-      fits = none-from (2 ^ m) numbers (pow-pos m) (passed (someFrom (2 ^ m) numbers) 22 _ small);
-      enough = leb-false room m (passed (leb room m) 23 _ (after (someFrom (2 ^ m) numbers) 22 _ small));
+      fits = none-from (2 ^ m) numbers (pow-pos m) (passed (someFrom (2 ^ m) numbers) 22 _ below);
+      small = omega (arith, ltb-false (2 ^ m - 1) start (passed (ltb (2 ^ m - 1) start) 24 _ (after (leb room m) 23 _ roomy)), pow-pos m);
+      enough = leb-false room m (passed (leb room m) 23 _ roomy);
     }
 
--- and the other way round: where each demand is met nothing is refused
-pub not-refused : (m : ℕ) (numbers : List ℕ) (room : ℕ) → 0 < m → m ≤ 12 → length numbers ≤ 64 → greatest numbers < 2 ^ m → m < room
-    → refusal m numbers room ≡ 0
+-- and the start fits 16 bits
+pub start-fits : (m : ℕ) (numbers : List ℕ) (start room : ℕ) → refusal m numbers start room ≡ 0 → start < 2 ^ 16
 unfolding refusal
-not-refused m numbers room some small few fits enough =
+start-fits m numbers start room e = omega (arith, accepted m numbers start room e .small, pow-mono (at-most m _ e))
+
+-- and the other way round: where each demand is met nothing is refused
+pub not-refused : (m : ℕ) (numbers : List ℕ) (start room : ℕ) → 0 < m → m ≤ 12 → length numbers ≤ 64 → Accepted m numbers start room
+    → refusal m numbers start room ≡ 0
+unfolding refusal
+not-refused m numbers start room some most few ok =
     rw (
       ne-eqb m 0 (omega arith),
-      le-ltb 12 m small,
+      le-ltb 12 m most,
       le-ltb 64 (length numbers) few,
-      all-below (2 ^ m) numbers fits,
-      lt-leb room m enough,
+      all-below (2 ^ m) numbers (ok .fits),
+      lt-leb room m (ok .enough),
+      le-ltb (2 ^ m - 1) start (omega (arith, ok .small)),
     )
 
 -- the contract of a settling that is done, and of one that is refused
-module _ (m : ℕ) (numbers buffer : List ℕ) where
-  pub settles-done : (r : Settled) (last : List ℕ) → refusal m numbers (length buffer) ≡ 0
-      → Ran m numbers 0 buffer r last → Settles m numbers buffer r last
+module _ (m : ℕ) (numbers : List ℕ) (start : ℕ) (buffer : List ℕ) where
+  pub settles-done : (r : Settled) (last : List ℕ) → refusal m numbers start (length buffer) ≡ 0
+      → Ran m numbers start buffer r last → Settles m numbers start buffer r last
   settles-done r last none ran = record { result = rw none (ran .result); left = rw none (ran .left) }
 
-  pub settles-refused : (answer : ℕ) → answer ≡ refusal m numbers (length buffer) → (answer ≡ 0 → ⊥)
-      → Settles m numbers buffer (record { answer = answer; lines = 0; stages = 0 }) buffer
+  pub settles-refused : (answer : ℕ) → answer ≡ refusal m numbers start (length buffer) → (answer ≡ 0 → ⊥)
+      → Settles m numbers start buffer (record { answer = answer; lines = 0; stages = 0 }) buffer
   settles-refused zero e some = absurd (some refl)
   settles-refused (suc refused) e some = record { result = rw (← e); left = rw (← e) }

@@ -1,12 +1,15 @@
 -- The interval-number by the width: a line more above brings nothing, and a bit more below either goes on with the last run or begins another.
 -- Assumes nothing.
 use Prim.Native.Nat.{ℕ, zero, suc, _+_, _/_, _%_, _^_, _<_}
-use native.Mathlib.Nat.{div-eq-of-lt, pow-suc}
+use native.Mathlib.Nat.{div-eq-of-lt, eq-zero-or-pos, pow-suc}
 use native.Mathlib.Omega.{arith}
-use mathlib.Core.Bool.{cond}
+use mathlib.Core.Bool.{Bool, cond}
 use mathlib.Core.List.{List, [], _∷_, _++_}
+use mathlib.Core.Logic.{⊎-elim}
 use mathlib.Core.Path.{_≡_, refl, ap, ap₂, _∙_}
 use lib.Dec.{eqb, eqb·zero-suc}
+use lib.Pow.{pow-pos}
+use borrow.Author.Tests.{ne-eqb}
 use Rattle.lines.proofs.Reading.{line-zero, line-suc}
 use Rattle.lines.specs.Intervals.{bits, fromFirstOne, runs, intervalNumber}
 
@@ -19,6 +22,12 @@ known-intervals = (refl, refl, refl)
 pub intervals-wider : (m x : ℕ) → x < 2 ^ m → intervalNumber (suc m) x ≡ intervalNumber m x
 unfolding intervalNumber bits fromFirstOne
 intervals-wider m x fits = rw (div-eq-of-lt fits)
+
+-- 0 has none
+pub intervals-zero : (m : ℕ) → intervalNumber m 0 ≡ 0
+unfolding intervalNumber bits fromFirstOne runs
+intervals-zero zero = refl
+intervals-zero (suc m) = intervals-wider m 0 (pow-pos m) ∙ intervals-zero m
 
 -- the bits of a number are those of its half and its lowest
 bits-half : (m x : ℕ) → bits (suc m) x ≡ bits m (x / 2) ++ (x % 2 ∷ [])
@@ -62,3 +71,14 @@ pub intervals-more : (m x : ℕ) → x < 2 ^ suc m
 unfolding intervalNumber
 intervals-more m x fits =
     rw (bits-half m x, ← last-bit m (x / 2) (omega (arith, pow-suc 2 m))) (counted-more (bits m (x / 2)) (x % 2))
+
+-- only 0 has none
+pub intervals-none : (m x : ℕ) → x < 2 ^ m → intervalNumber m x ≡ 0 → x ≡ 0
+intervals-none zero x fits none = omega arith
+intervals-none (suc m) x fits none =
+    let more = intervals-more m x fits in
+    let half : x / 2 ≡ 0 = intervals-none m (x / 2) (omega (arith, pow-suc 2 m)) (omega arith) in
+    ⊎-elim
+    (λ (low : x % 2 ≡ 0). omega arith)
+    (λ (low : 0 < x % 2). absurd (omega (arith, more, ap (λ (b : Bool). cond {A = ℕ} b 0 1) (ne-eqb (x / 2 % 2) (x % 2) (λ same. omega arith)))))
+    (eq-zero-or-pos (x % 2))

@@ -18,7 +18,7 @@ use Rattle.cards.specs.Saving.{savedOf, bufferAfter}
 use Rattle.cards.specs.Table.{inTable, topNumber, tableGood}
 use Rattle.cards.specs.declared.Table.{Table}
 use Rattle.contest.specs.Marks.{isIn, Marks, marks}
-use Rattle.contest.specs.Rules.{spanOf}
+use Rattle.contest.specs.Rules.{linesGiven, spanOf}
 use Rattle.contest.specs.Shown.{firstAt, shownSettling}
 use Rattle.laptop.specs.Settle.{SettlesBytes}
 use Rattle.laptop.specs.Table.{GivesTable}
@@ -58,15 +58,15 @@ one-reply x y b c p q = one-result-left (p .reply, p .marks-left) (q .reply, q .
 
 -- ---- lines
 
-pub settle-determined : (m : ℕ) (numbers buffer : List ℕ) → DeterminedLeft (Settles m numbers buffer)
-settle-determined m numbers buffer x y b c p q = one-result-left (p .result, p .left) (q .result, q .left)
+pub settle-determined : (m : ℕ) (numbers : List ℕ) (start : ℕ) (buffer : List ℕ) → DeterminedLeft (Settles m numbers start buffer)
+settle-determined m numbers start buffer x y b c p q = one-result-left (p .result, p .left) (q .result, q .left)
 
 -- numbers of 16 bits fit 16 lines
 pub applied-by-determined : (lines own : ℕ) → lines < 2 ^ 16 → own < 2 ^ 16
     → Determined (λ r. (m : ℕ) → lines < 2 ^ m → own < 2 ^ m → r ≡ applied m lines own)
 applied-by-determined lines own fits small x y p q = one-result (p 16 fits small) (q 16 fits small)
 
-pub refusal-of-size-determined : (m count : ℕ) → Determined (λ r. r ≡ refusal m (replicate count 0) (suc m))
+pub refusal-of-size-determined : (m count : ℕ) → Determined (λ r. r ≡ refusal m (replicate count 0) 0 (suc m))
 refusal-of-size-determined m count x y = one-result
 
 -- ---- cards
@@ -96,14 +96,17 @@ load-table-determined file x y = one-result
 pub span-determined : (k : ℕ) → Determined (λ r. (r ≡ spanOf k) × ((1 ≤ r) × (r ≤ 64)))
 span-determined k x y p q = one-result (p .0) (q .0)
 
+pub lines-of-determined : (k rule : ℕ) → Determined (λ r. r ≡ linesGiven k rule)
+lines-of-determined k rule x y = one-result
+
 pub some-marked-determined : (cards : List Bool) → Determined (λ r. r ≡ anyBelow 64 (isIn cards))
 some-marked-determined cards x y = one-result
 
 pub some-first-determined : (rule : ℕ) (waiting batch inhibited : List Bool) → Determined (λ r. r ≡ anyBelow 64 (firstAt rule waiting batch inhibited))
 some-first-determined rule waiting batch inhibited x y = one-result
 
-pub settling-of-determined : (k rule last : ℕ) (anew : Bool) (m : Marks) → Determined (λ r. r ≡ shownSettling k rule last anew m)
-settling-of-determined k rule last anew m x y = one-result
+pub settling-of-determined : (k rule last start : ℕ) (anew : Bool) (m : Marks) → Determined (λ r. r ≡ shownSettling k rule last start anew m)
+settling-of-determined k rule last start anew m x y = one-result
 
 -- ---- arbiter. A contract there holds whatever the parts are that the event does not look at: one choice of them will do.
 
@@ -195,8 +198,8 @@ row-text-determined number slots row line x y b c = one-result-left
 
 -- ---- laptop
 
-pub rack-settle-determined : (m : ℕ) (numbers buffer : List ℕ) → DeterminedLeft (SettlesBytes m numbers buffer)
-rack-settle-determined m numbers buffer x y b c p q = one-result-left (p .result, p .left) (q .result, q .left)
+pub rack-settle-determined : (m : ℕ) (numbers : List ℕ) (start : ℕ) (buffer : List ℕ) → DeterminedLeft (SettlesBytes m numbers start buffer)
+rack-settle-determined m numbers start buffer x y b c p q = one-result-left (p .result, p .left) (q .result, q .left)
 
 pub rack-check-determined : (file : List ℕ) → Determined (λ r. r ≡ loadTableOf file .answer)
 rack-check-determined file x y = one-result

@@ -16,7 +16,7 @@ use Rattle.cards.specs.Below as below
 use Rattle.cards.specs.Table as table
 use Rattle.cards.specs.declared.Table.{Table}
 use Rattle.contest.specs.Rules as rules
-use Rattle.lines.specs.Known.{row, known}
+use Rattle.lines.specs.Known.{rowFrom, row, known}
 use Rattle.lines.specs.Settle as settle
 use Rattle.lines.specs.Settling as settling
 use Rattle.promises.specs.Fairness.{AtMost, AtMostOthers, FairShare, Within}
@@ -31,7 +31,7 @@ unfolding below.allBelow below.anyBelow below.sumBelow below.tabulate below.rows
     table.hasCard table.inTable table.slotIsNew table.numberGood table.slotsGood table.tableGood
     markFits setsFit wellFormed answeredBy requestRefusal releaseRefusal
     rules.byRule rules.linesBy arbitrate.numberOf rules.goesFirst arbitrate.somePreferred arbitrate.competes
-    arbitrate.batchNow arbitrate.inhibitedNow arbitrate.competingBelow arbitrate.someLoserFull
+    arbitrate.batchNow arbitrate.inhibitedNow arbitrate.competingBelow arbitrate.valueNow arbitrate.someLoserFull
     arbitrate.losersCounted arbitrate.granted arbitrate.wonBy arbitrate.arbitrated arbitrate.arbitrateRefusal arbitrate.eventOf
     settle.someFrom settle.refusal
     settling.settled settling.stages settling.changes settling.linesAt settling.stage settling.applied settling.outbid settling.trail
@@ -56,8 +56,8 @@ listing-replayed = refl
 
 -- ---- the known settlings that name a rule, P8 to P10: playing every row gives the row, and the settlings are the last three of `lines`
 
-pub known-rules : (map played knownRules ≡ knownRules) × (map (λ (r : Ruled). r .settling) knownRules ≡ drop 7 known)
-unfolding machine played settlingIn threeCards knownRules all-ask six-again five-done ruled row known
+pub known-rules : (map played knownRules ≡ knownRules) × (map (λ (r : Ruled). r .settling) knownRules ≡ drop 8 known)
+unfolding machine played settlingIn threeCards knownRules all-ask six-again five-done ruled rowFrom row known
 known-rules = (refl, refl)
 
 -- ---- under the fixed rule the card 2 waits while the card 6 is granted twice, which breaks each part of demand 3
@@ -191,6 +191,7 @@ both-full = record {
   inhibited = replicate 64 false;
   last = 0;
   bus = Free;
+  value = 0;
 }
 
 pub full-refused : (wellFormed both-full ≡ true) × (outcomeOf both-full A .answer ≡ 16)

@@ -3,12 +3,12 @@
 use Prim.Native.Nat.{ℕ}
 use mathlib.Core.List.{List, [], _∷_, _++_}
 use lib.ListN.{replicate}
-use Rattle.arbiter.specs.Arbitrate.{linesOf, competing, settlingOf}
-use Rattle.arbiter.specs.State.{waits, countOf, freshOf}
+use Rattle.arbiter.specs.Arbitrate.{competing, settlingOf}
+use Rattle.arbiter.specs.State.{waits, countOf, linesOf, withValue, freshOf}
 use Rattle.arbiter.specs.declared.RackState.{RackState}
 use Rattle.cards.specs.Below.{rowsBelow}
 use Rattle.cards.specs.declared.Table.{Table}
-use Rattle.lines.specs.Known.{Known, row}
+use Rattle.lines.specs.Known.{Known, rowFrom, row}
 use Rattle.lines.specs.Settling.{trail}
 use Rattle.promises.specs.Listing.{Q, A, R}
 use Rattle.promises.specs.Runs.{Event, after}
@@ -32,14 +32,16 @@ threeCards rule = record { k = 3; rule = rule; slots = 0 ∷ 0 ∷ 1 ∷ 0 ∷ 0
 
 -- the settling of a state: the competing numbers and the lines that the rule makes, the lines after each stage, and the stages
 unfoldable pub settlingIn : RackState → Known
-unfolding row
-settlingIn s = row (competing s) (linesOf s) (trail (linesOf s) (competing s) 0 (settlingOf s .stages)) (settlingOf s .stages)
+unfolding rowFrom
+settlingIn s =
+    rowFrom (s .value) (competing s) (linesOf s) (trail (linesOf s) (competing s) (s .value) (settlingOf s .stages)) (settlingOf s .stages)
 
--- a row, with all but its rule and its events worked out by the definitions
+-- A row, with all but its rule and its events worked out by the definitions. Document 01 has lines at 0 before each settling, so the kept value is
+-- put back to 0 here.
 unfoldable pub played : Ruled → Ruled
 unfolding ruled threeCards settlingIn
 played r =
-    let s = after (freshOf (threeCards (r .rule))) (r .events) in
+    let s = withValue (after (freshOf (threeCards (r .rule))) (r .events)) 0 in
     ruled (r .rule) (r .events) (s .last) (rowsBelow 64 (waits s) (λ a. a ∷ [])) (rowsBelow 64 (waits s) (λ a. countOf s a ∷ [])) (settlingIn s)
 
 -- each row's events begin with those of the row before

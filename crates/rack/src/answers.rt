@@ -1,13 +1,26 @@
-// What events answer: outcomes.
+// What events take and answer: what is left of a state beside its table and its marks, and outcomes.
 ghost use mathlib.Core.Path.{_≡_};
 ghost use Rattle.arbiter.specs.Events.{answered};
-ghost use Rattle.arbiter.specs.Lent.{outcomeFrom};
+ghost use Rattle.arbiter.specs.Lent.{holdOf, outcomeFrom};
 ghost use Rattle.contest.specs.Marks.{marks};
+use arbiter::Hold;
 use arbiter::Outcome;
 use arbiter::RackState;
 use arbiter::Reply;
 use arbiter::state_of;
 use cards::Table;
+
+// The last winner, the bus and the kept value of a state.
+pub(crate) fn hold_of(s: RackState) -> Hold
+    ensures { λ r. ⌜ r ≡ holdOf s ⌝ }
+{
+    let bus = s.bus;
+    Hold {
+        last: s.last,
+        bus,
+        value: s.value,
+    }
+}
 
 // A refusal with the state given.
 pub(crate) fn refused(s: RackState, number: u8) -> Outcome

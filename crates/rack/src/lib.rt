@@ -1,14 +1,15 @@
-// The rack: a state by value, which holds the card table, one array for each mark of a card, and the bus; its events; and its file.
+// The rack: a state by value, which holds the card table, one array for each mark of a card, the bus, and the value that the lines keep; its events;
+// and its file.
 ghost use mathlib.Core.Path.{_≡_};
 ghost use lib.ListN.{length};
 ghost use Rattle.arbiter.specs.Arbitrate.{arbitrateOf, eventOf};
 ghost use Rattle.arbiter.specs.Events.{requestOf, releaseOf};
 ghost use Rattle.arbiter.specs.State.{wellFormed, freshOf};
 ghost use Rattle.rack.specs.Files.{loadOf, saveOf, saveAfter};
+use answers::hold_of;
 use answers::outcome_of;
 use answers::refused;
 use arbiter::Bus;
-use arbiter::Hold;
 use arbiter::Outcome;
 use arbiter::RackState;
 use arbiter::arbitrate_in;
@@ -19,6 +20,7 @@ use cards::Table;
 use marks::bus_ok;
 use marks::last_ok;
 use marks::marks_ok;
+use marks::value_ok;
 
 mod answers;
 mod marks;
@@ -34,12 +36,12 @@ pub fn well_formed(s: RackState) -> bool
     ensures { λ r. ⌜ r ≡ wellFormed s ⌝ }
 {
     if cards::table_good(s.table) {
-        return marks_ok(s) & last_ok(s) & bus_ok(s);
+        return marks_ok(s) & last_ok(s) & bus_ok(s) & value_ok(s);
     }
     false
 }
 
-// A freshly loaded state: nobody waits, counts 0, the two sets empty, last winner 0, bus free.
+// A freshly loaded state: nobody waits, counts 0, the two sets empty, last winner 0, bus free, lines at 0.
 pub fn fresh(t: Table) -> RackState
     ensures { λ r. ⌜ r ≡ freshOf t ⌝ }
 {
@@ -51,6 +53,7 @@ pub fn fresh(t: Table) -> RackState
         inhibited: [false; 64],
         last: 0,
         bus: Bus::Free,
+        value: 0,
     }
 }
 
@@ -62,8 +65,7 @@ pub fn request(s: RackState, a: u8) -> Outcome
     let slots = table.slots;
     let mut waiting = s.waiting;
     let mut counts = s.counts;
-    let bus = s.bus;
-    let hold = Hold { last: s.last, bus };
+    let hold = hold_of(s);
     let r = request_in(well_formed(s), &slots, &mut waiting, &mut counts, hold, a);
     let batch = s.batch;
     let inhibited = s.inhibited;
@@ -77,8 +79,7 @@ pub fn release(s: RackState, a: u8) -> Outcome
     let table = s.table;
     let slots = table.slots;
     let mut inhibited = s.inhibited;
-    let bus = s.bus;
-    let hold = Hold { last: s.last, bus };
+    let hold = hold_of(s);
     let r = release_in(well_formed(s), table.rule, &slots, &mut inhibited, hold, a);
     let waiting = s.waiting;
     let counts = s.counts;
@@ -95,8 +96,7 @@ pub fn arbitrate(s: RackState) -> Outcome
     let mut counts = s.counts;
     let mut batch = s.batch;
     let mut inhibited = s.inhibited;
-    let bus = s.bus;
-    let hold = Hold { last: s.last, bus };
+    let hold = hold_of(s);
     let r = arbitrate_in(
         well_formed(s),
         table.k,

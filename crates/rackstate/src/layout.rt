@@ -24,8 +24,10 @@ const HELD: usize = LAST + 1;
 
 const HOLDER: usize = HELD + 1;
 
+const VALUE: usize = HOLDER + 1;
+
 // Where the state ends, and what comes after it begins.
-pub(crate) const AFTER: usize = HOLDER + 1;
+pub(crate) const AFTER: usize = VALUE + 2;
 
 // The state, a letter and a number.
 pub(crate) const RECORD: usize = AFTER + 2;
@@ -35,7 +37,7 @@ const ANSWER: usize = AFTER + 5;
 
 // The 64 bytes of a record from at on.
 fn numbers_at(bytes: &[u8; RECORD], at: usize) -> [u8; 64]
-    requires { ⌜ at + 64 ≤ 325 ⌝ }
+    requires { ⌜ at + 64 ≤ 327 ⌝ }
 {
     let mut numbers = [0u8; 64];
     for a in 0..64usize {
@@ -46,7 +48,7 @@ fn numbers_at(bytes: &[u8; RECORD], at: usize) -> [u8; 64]
 
 // The same as marks: 0 for no, anything else for yes.
 fn marks_at(bytes: &[u8; RECORD], at: usize) -> [bool; 64]
-    requires { ⌜ at + 64 ≤ 325 ⌝ }
+    requires { ⌜ at + 64 ≤ 327 ⌝ }
 {
     let mut marks = [false; 64];
     for a in 0..64usize {
@@ -61,6 +63,11 @@ fn bus_from(held: u8, holder: u8) -> Bus {
         return Bus::Free;
     }
     Bus::Held(holder)
+}
+
+// A number of two bytes.
+fn word(low: u8, high: u8) -> u16 {
+    (high as u16) * 256 + (low as u16)
 }
 
 // The state at the front of a record.
@@ -83,12 +90,13 @@ pub(crate) fn state_from(bytes: &[u8; RECORD]) -> RackState {
         inhibited,
         last: bytes[LAST],
         bus,
+        value: word(bytes[VALUE], bytes[VALUE + 1]),
     }
 }
 
 // Puts 64 numbers into an answer from at on.
 fn put_numbers(out: &mut [u8; ANSWER], at: usize, numbers: [u8; 64])
-    requires { ⌜ at + 64 ≤ 325 ⌝ }
+    requires { ⌜ at + 64 ≤ 327 ⌝ }
 {
     for a in 0..64usize {
         out[at + a] = numbers[a];
@@ -97,7 +105,7 @@ fn put_numbers(out: &mut [u8; ANSWER], at: usize, numbers: [u8; 64])
 
 // The same for marks: 1 for yes, 0 for no.
 fn put_marks(out: &mut [u8; ANSWER], at: usize, marks: [bool; 64])
-    requires { ⌜ at + 64 ≤ 325 ⌝ }
+    requires { ⌜ at + 64 ≤ 327 ⌝ }
 {
     for a in 0..64usize {
         out[at + a] = marks[a] as u8;
@@ -140,6 +148,8 @@ pub(crate) fn bytes_of(s: RackState) -> [u8; ANSWER] {
     out[LAST] = s.last;
     out[HELD] = is_held(bus);
     out[HOLDER] = holder_of(bus);
+    out[VALUE] = low_byte(s.value as usize);
+    out[VALUE + 1] = high_byte(s.value as usize);
     out
 }
 

@@ -1,6 +1,6 @@
 // Takes states of a rack as bytes, each with an event or a save, and writes what the rack makes of each.
 //
-// A record in has 327 bytes. Its first 325 are a state:
+// A record in has 329 bytes. Its first 327 are a state:
 //   0    number width k
 //   1    rule
 //   2    the slot of each number, 64 bytes
@@ -11,21 +11,22 @@
 //   322  last winner
 //   323  whether the bus is held: 0 for no, anything else for yes
 //   324  the holder
+//   325  the kept value of the lines, low byte first, 2 bytes
 // Then what to do with it:
-//   325  the letter: Q, A or R for an event, S for a save; any other letter is an event too, and is refused with 18
-//   326  the number of the event, or how many bytes are lent to the save; each of them holds EE before (in hex)
+//   327  the letter: Q, A or R for an event, S for a save; any other letter is an event too, and is refused with 18
+//   328  the number of the event, or how many bytes are lent to the save; each of them holds EE before (in hex)
 //
-// A record out has 330 bytes, and after a save those that were lent. Its first 325 are the state that the event returns, or the state that was
+// A record out has 332 bytes, and after a save those that were lent. Its first 327 are the state that the event returns, or the state that was
 // saved, laid out as above: yes is 1, and the holder of a free bus is 0. Then, for an event:
-//   325  answer
-//   326  winner
-//   327  settled lines, low byte first, 2 bytes
-//   329  stages
+//   327  answer
+//   328  winner
+//   329  settled lines, low byte first, 2 bytes
+//   331  stages
 // and for a save:
-//   325  answer
-//   326  length, low byte first, 2 bytes
-//   328  zeros, 2 bytes
-//   330  the bytes that were lent, as the save left them
+//   327  answer
+//   328  length, low byte first, 2 bytes
+//   330  zeros, 2 bytes
+//   332  the bytes that were lent, as the save left them
 //
 // Each record is answered before the next is read. The program ends where the input ends or a record is short.
 use arbiter::RackState;

@@ -102,7 +102,11 @@ pub fn run(s: RackState, input: &[u8], output: &mut [u8]) -> Ran
     let mut batch = s.batch;
     let mut inhibited = s.inhibited;
     let bus = s.bus;
-    let mut hold = Hold { last: s.last, bus };
+    let mut hold = Hold {
+        last: s.last,
+        bus,
+        value: s.value,
+    };
     for n in 0..lines {
         let line = line_at(input, n);
         let r = answer_line(

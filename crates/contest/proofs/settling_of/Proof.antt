@@ -11,7 +11,7 @@ returns c =
     let spanned = shown .before in
     let given = spanned .before .before .args in
     rw (c .before .settle .ensures .result, spanned .before .lines-of .ensures)
-    (settled-as-shown (given .k) (given .rule) (shown .numbers-of .result) _
+    (settled-as-shown (given .k) (given .rule) (shown .numbers-of .result) _ (given .start)
     (λ small. shown .numbers-of .ensures (given .k) (spanned .span .ensures .0 ∙ span-of (given .k) small)))
 
 pub settling-of-spec : {M : Type 1} → statement M

@@ -9,7 +9,7 @@ pub rack-settle-spec : {M : Type 1} → statement M
 rack-settle-spec =
     tie.close
     (tie.spec
-    (λ c. entry-wide _ _ _ (omega (arith, c .if1 .taken)))
+    (λ c. entry-wide _ _ _ _ (omega (arith, c .if1 .taken)))
     (λ c. search needs)
     (λ c κs. search needs)
     (λ c. search needs)

@@ -6,22 +6,21 @@ use Rattle.arbiter.proofs.Refusals.{told-truth}
 use Rattle.rack.proofs.arbitrate.Statement.{statement}
 use Rattle.rack.proofs.arbitrate.Tie as tie
 
-well-formed-requires : tie.Need-well-formed-requires
-well-formed-requires c κs = search needs
-
-arbitrate-in-requires : tie.Need-arbitrate-in-requires
-arbitrate-in-requires c κs = search needs
-
-outcome-of-requires : tie.Need-outcome-of-requires
-outcome-of-requires c κs = search needs
-
 returns : tie.Need-returns
 returns c =
     let asked = c .before .before .before .before .before .before in
-    let s = asked .before .before .before .before .before .before .args .s in
+    let held = asked .before in
+    let s = held .before .before .before .before .before .before .args .s in
     c .outcome-of .ensures
     ∙ outcome-again _ (s .table) _ _ (table-kept _ s _ (arbitrated-table s))
-    (rw (told-truth s) at (rw (asked .well-formed .ensures) at (c .before .arbitrate-in .ensures .left (s .table .slots))))
+    (rw (told-truth s) at (rw (asked .well-formed .ensures, held .hold-of .ensures) at (c .before .arbitrate-in .ensures .left (s .table .slots))))
 
 pub arbitrate-spec : {M : Type 1} → statement M
-arbitrate-spec = tie.close (tie.spec well-formed-requires arbitrate-in-requires outcome-of-requires returns)
+arbitrate-spec =
+    tie.close
+    (tie.spec
+    (λ c κs. search needs)
+    (λ c κs. search needs)
+    (λ c κs. search needs)
+    (λ c κs. search needs)
+    returns)

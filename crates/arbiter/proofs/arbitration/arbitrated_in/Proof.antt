@@ -10,12 +10,13 @@ use Rattle.arbiter.proofs.Laws.{shown-settles}
 use Rattle.arbiter.proofs.Leaving.{leaves-unsettled, leaves-settled}
 use Rattle.arbiter.proofs.arbitration.arbitrated_in.Statement.{statement}
 use Rattle.arbiter.proofs.arbitration.arbitrated_in.Tie as tie
-use Rattle.arbiter.specs.Arbitrate.{somePreferred, settlingOf}
+use Rattle.arbiter.specs.Arbitrate.{somePreferred, settlingOf, valueNow}
 use Rattle.arbiter.specs.Lent.{stateOf, tableOf}
 use Rattle.arbiter.specs.declared.RackState.{RackState}
 use Rattle.cards.specs.declared.Table.{Table}
 use Rattle.contest.proofs.Laws.{span-of}
 use Rattle.contest.specs.Marks.{Marks, marks}
+use Rattle.lines.specs.declared.Settled.{Settled}
 
 -- the state, whatever the slots are, and its settling
 module _ (c : tie.After-settling-of) (slots : List ℕ) where
@@ -41,6 +42,10 @@ module _ (c : tie.After-settling-of) (slots : List ℕ) where
   settled : c .settling-of .result ≡ settlingOf state
   settled = c .settling-of .ensures ∙ shown-settles state _ anew (given .pre)
 
+  value : c .settling-of .result .lines ≡ valueNow state
+  unfolding valueNow
+  value = ap (λ (t : Settled). t .lines) settled
+
 returns : tie.Need-returns
 returns c slots =
     let before = c .before .before .before in
@@ -59,7 +64,8 @@ returns-2 c slots =
     let spanned = c .before .before .before .before .before .before in
     let before = spanned .before .before .before in
     leaves-settled (table before slots) (lent before slots) _ (before .settling-of .result) (settled before slots) (spanned .before .if1 .left)
-    (rw (spanned .span .ensures .0 ∙ span-of _ (given before slots .pre)) at (c .granted-in .ensures slots (state before slots) refl (anew before slots)))
+    (rw (spanned .span .ensures .0 ∙ span-of _ (given before slots .pre))
+    at (c .granted-in .ensures slots (state before slots) refl (anew before slots) (value before slots)))
 
 pub arbitrated-in-spec : {M : Type 1} → statement M
 arbitrated-in-spec =

@@ -30,7 +30,7 @@ module _ (c : tie.After-some-loser-full) (slots : List ℕ) where
 
 returns : tie.Need-returns
 unfolding wonBy
-returns c slots s is anew =
+returns c slots s is anew value =
     let tested = c .before .before in
     rw (is, c .quiet .ensures, full tested slots ∙ c .before .if1 .taken) (leaves-answered (state tested slots .table) (lent tested slots) _ 16)
 
@@ -53,7 +53,7 @@ one-more-each-requires c κs =
 
 returns-2 : tie.Need-returns-2
 unfolding wonBy granted losersCounted batchNow inhibitedNow
-returns-2 c slots s is anew =
+returns-2 c slots s is anew value =
     let branch = c .before .before .before in
     let sets = branch .before in
     rw (
@@ -64,12 +64,13 @@ returns-2 c slots s is anew =
       room sets slots,
       eq-eqb _ _ (branch .if2 .taken),
       ← (rw is at anew),
+      ← (rw is at value),
     )
     (record { reply = refl; marks-left = refl })
 
 returns-3 : tie.Need-returns-3
 unfolding wonBy granted losersCounted batchNow inhibitedNow
-returns-3 c slots s is anew =
+returns-3 c slots s is anew value =
     let sets = c .before in
     rw (
       is,
@@ -78,6 +79,7 @@ returns-3 c slots s is anew =
       room sets slots,
       ne-eqb _ _ (c .if2 .left),
       ← (rw is at anew),
+      ← (rw is at value),
     )
     (record { reply = refl; marks-left = refl })
 

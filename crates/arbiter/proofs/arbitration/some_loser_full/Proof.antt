@@ -1,4 +1,5 @@
 -- `arbiter::arbitration::some_loser_full` meets its contract: by the rule. Assumes nothing.
+use mathlib.Core.Path.{_∙_}
 use borrow.Author.Needs.{needs}
 use borrow.Author.Tests.{eq-eqb, ne-eqb}
 use Rattle.arbiter.proofs.arbitration.some_loser_full.Statement.{statement}
@@ -20,7 +21,9 @@ some-full-loser-requires c κs = search needs
 
 returns : tie.Need-returns
 unfolding someLoserFull
-returns c slots batch inhibited hold = rw (c .some-full-loser .ensures, c .before .span .ensures .0, span-of _ (c .before .before .before .pre), eq-eqb _ _ (c .before .before .if1 .taken))
+returns c slots batch inhibited hold =
+    let spans = c .before .span .ensures .0 ∙ span-of _ (c .before .before .before .pre) in
+    rw (c .some-full-loser .ensures, spans, eq-eqb _ _ (c .before .before .if1 .taken))
 
 returns-2 : tie.Need-returns-2
 unfolding someLoserFull

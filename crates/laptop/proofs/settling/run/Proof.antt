@@ -13,10 +13,10 @@ use Rattle.lines.proofs.Walk.{carried-lt, more}
 use Rattle.lines.specs.Settling.{stage}
 
 abbrev Inv-loop : tie.InvT-loop
-Inv-loop m numbers stages₀ t₀ lines₀ stages t lines = Kept m (words numbers) stages₀ stages t lines
+Inv-loop m numbers start stages₀ t₀ lines₀ stages t lines = Kept m (words numbers) start stages₀ stages t lines
 
 abbrev μ-loop : tie.MeasureT-loop
-μ-loop m numbers stages₀ t₀ lines₀ stages t lines = m - t
+μ-loop m numbers start stages₀ t₀ lines₀ stages t lines = m - t
 
 -- the next stage is the definition's, and where it differs there is room for it
 module _ (c : tie.After-next-stage Inv-loop μ-loop) where
@@ -29,23 +29,26 @@ module _ (c : tie.After-next-stage Inv-loop μ-loop) where
   abbrev ws : List ℕ
   ws = words (entry .args .numbers .now)
 
+  abbrev start : ℕ
+  start = entry .args .start
+
   abbrev lent : List ℕ
   lent = entry .args .stages .now
 
   abbrev first : List ℕ
   first = c .before .before .before .before .put-word .last .1 .1 .0
 
-  begun : first ≡ put 0 0 lent
+  begun : first ≡ put start 0 lent
   begun = c .before .before .before .before .put-word .ensures
 
   long : length first ≡ length lent
-  long = ap length begun ∙ put-length 0 0 lent
+  long = ap length begun ∙ put-length start 0 lent
 
   is-next : c .next-stage .result ≡ stage m ws (c .before .loop .lines)
   is-next =
       let head = c .before .loop in
       c .next-stage .ensures m (entry .pre .fits)
-      (carried-lt m ws 0 (head .t) (head .lines) (entry .pre .fits) (entry .pre .small) (head .inv .walked))
+      (carried-lt m ws start (head .t) (head .lines) (entry .pre .fits) (entry .pre .small) (head .inv .walked))
 
   room : m < length first / 2
   room = rw long (entry .pre .enough)
@@ -53,15 +56,15 @@ module _ (c : tie.After-next-stage Inv-loop μ-loop) where
   earlier : (c .next-stage .result ≡ c .before .loop .lines → ⊥) → c .before .loop .t < m
   earlier =
       let head = c .before .loop in
-      more m ws 0 (head .t) (head .lines) (entry .pre .fits) (entry .pre .small) (head .inv .walked) (c .next-stage .result) is-next
+      more m ws start (head .t) (head .lines) (entry .pre .fits) (entry .pre .small) (head .inv .walked) (c .next-stage .result) is-next
 
 put-word-requires : tie.Need-put-word-requires Inv-loop μ-loop
 put-word-requires c κs = omega arith
 
 loop-holds : tie.Need-loop-holds Inv-loop μ-loop
 loop-holds c =
-    let start = c .before .before .before .before .before .before in
-    kept-first _ _ (start .args .stages .now) _ (omega arith) (c .before .before .put-word .ensures)
+    let given = c .before .before .before .before .before .before .args in
+    kept-first _ _ (given .start) (given .stages .now) _ (omega arith) (c .before .before .put-word .ensures)
 
 add-t : tie.Need-add-t Inv-loop μ-loop
 add-t c = omega (arith, earlier (c .before) (c .if1 .left), entry (c .before) .fits .m)
@@ -84,14 +87,14 @@ loop-again c =
     let other = c .before .before .before .before in
     let at = other .before in
     let head = at .before .loop in
-    kept-next (m at) (ws at) (first at) (head .stages) (head .t) (head .lines) (entry at .pre .fits) (entry at .pre .small) (head .inv)
+    kept-next (m at) (ws at) (start at) (first at) (head .stages) (head .t) (head .lines) (entry at .pre .fits) (entry at .pre .small) (head .inv)
     (at .next-stage .result) (is-next at) _ (c .before .before .put-word2 .ensures) (room at) (other .if1 .left)
 
 returns : tie.Need-returns Inv-loop μ-loop
 returns c =
     let at = c .before in
     let head = at .before .loop in
-    kept-end (m at) (ws at) (first at) (head .stages) (head .t) (head .lines) (entry at .pre .fits) (entry at .pre .small) (head .inv)
+    kept-end (m at) (ws at) (start at) (first at) (head .stages) (head .t) (head .lines) (entry at .pre .fits) (entry at .pre .small) (head .inv)
     (at .next-stage .result) (is-next at) (lent at) (begun at) (c .if1 .taken)
 
 pub run-spec : {M : Type 1} → statement M

@@ -1,10 +1,10 @@
--- `contest::offers::lines_of` meets its contract: by the rule. Assumes nothing.
+-- `contest::lines_of` meets its contract: by the rule. Assumes nothing.
 use mathlib.Core.Path.{sym}
 use borrow.Author.Needs.{needs}
 use borrow.Author.Tests.{lt-leb}
 use Rattle.contest.proofs.Laws.{other-rule, lines-given}
-use Rattle.contest.proofs.offers.lines_of.Statement.{statement}
-use Rattle.contest.proofs.offers.lines_of.Tie as tie
+use Rattle.contest.proofs.lines_of.Statement.{statement}
+use Rattle.contest.proofs.lines_of.Tie as tie
 use Rattle.contest.specs.Rules.{byRule, linesBy, linesGiven}
 
 add-result : tie.Need-add-result
