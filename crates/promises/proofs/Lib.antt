@@ -1,5 +1,5 @@
--- The demands proved: fairness (Sums to Fairness), states, waiting counts (OthersLeft, Counts), the round trip of a table, the most stages, the
--- examples, and that every contract admits one result.
+-- The demands proved: fairness (Sums to Fairness), states, waiting counts (OthersLeft, Counts), the round trip of a table, the most stages, the waiting
+-- report, and that every contract admits one result.
 pub mod Sums
 pub mod Turns
 pub mod Potentials
@@ -11,6 +11,5 @@ pub mod Counts
 pub mod RoundTrip
 pub mod Settling
 pub mod Slowest
-pub mod Examples
 pub mod WaitingReport
 pub mod Determined

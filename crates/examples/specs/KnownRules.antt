@@ -10,8 +10,8 @@ use Rattle.cards.specs.Below.{rowsBelow}
 use Rattle.cards.specs.declared.Table.{Table}
 use Rattle.lines.specs.Known.{Known, rowFrom, row}
 use Rattle.lines.specs.Settling.{trail}
-use Rattle.promises.specs.Listing.{Q, A, R}
+use Rattle.examples.specs.Listing.{Q, A, R}
 use Rattle.promises.specs.Runs.{Event, after}
 
 -- the rule and the events; then the last winner, the cards that wait, by rising number, with their counts; and their settling
 pub record Ruled : Type 0 where

@@ -19,10 +19,10 @@ use Rattle.contest.specs.Rules as rules
 use Rattle.lines.specs.Known.{rowFrom, row, known}
 use Rattle.lines.specs.Settle as settle
 use Rattle.lines.specs.Settling as settling
 use Rattle.promises.specs.Fairness.{AtMost, AtMostOthers, FairShare, Within}
-use Rattle.promises.specs.KnownRules.{Ruled, ruled, threeCards, settlingIn, played, all-ask, six-again, five-done, knownRules}
-use Rattle.promises.specs.Listing.{line, Q, A, R, replayed, file, listing}
+use Rattle.examples.specs.KnownRules.{Ruled, ruled, threeCards, settlingIn, played, all-ask, six-again, five-done, knownRules}
+use Rattle.examples.specs.Listing.{line, Q, A, R, replayed, file, listing}
 use Rattle.promises.specs.Runs.{Event, outcomeOf, after, grants, times, timesOthers, cardsOf, WaitsThrough, WaitsAtGrants}
 use Rattle.rack.specs.Files.{loadOf}
 
 -- whoever unfolds this computes with the whole machine

@@ -1,0 +1,1 @@
+// Worked examples alone: see specs/ and proofs/.
