@@ -24,6 +24,8 @@ pub struct Rack {
     pub bus: Bus,
     /// The last settled value, which the lines still carry. 0 if none yet.
     pub kept: u16,
+    /// How many cards wait, as the state has it stored.
+    pub waiters: u8,
 }
 
 #[derive(Clone, Copy, Debug, PartialEq, Eq)]
@@ -52,6 +54,7 @@ impl Rack {
             last_winner: 0,
             bus: Bus::Free,
             kept: 0,
+            waiters: 0,
         }
     }
 
@@ -69,6 +72,7 @@ impl Rack {
             && (self.last_winner == 0 || self.table.has(self.last_winner))
             && self.holder_is_well_formed()
             && u32::from(self.kept) < 1 << self.lines()
+            && self.waiters == self.recount()
             && (0..64).all(|card| self.count_is_well_formed(card))
             && (0..64).all(|card| self.sets_are_well_formed(card))
     }
@@ -109,6 +113,19 @@ impl Rack {
 
     pub fn waiting_cards(&self) -> Vec<u8> {
         (0..64).filter(|&card| self.waits(card)).collect()
+    }
+
+    /// How many cards wait, counted anew.
+    pub fn recount(&self) -> u8 {
+        self.waiting_cards().len() as u8
+    }
+
+    /// How many cards wait, as the panel asks it.
+    pub fn waiting_count(&self) -> Result<u8, u32> {
+        match self.is_well_formed() {
+            true => Ok(self.waiters),
+            false => Err(17),
+        }
     }
 
     fn competitors(&self) -> Vec<u8> {
@@ -153,6 +170,7 @@ impl Rack {
         }
         let mut next = *self;
         next.waiting[usize::from(card)] = true;
+        next.waiters += 1;
         next.counts[usize::from(card)] = 0;
         Ok((next, Outcome::default()))
     }
@@ -174,7 +192,7 @@ impl Rack {
         if self.bus != Bus::Free {
             return Err(13);
         }
-        if self.waiting_cards().is_empty() {
+        if self.waiters == 0 {
             return Err(14);
         }
         let rule = rule(self.table.rule);
@@ -204,6 +222,7 @@ impl Rack {
     fn grant(&self, rule: &Rule, winner: u8) -> Result<Rack, u32> {
         let mut next = *self;
         next.waiting[usize::from(winner)] = false;
+        next.waiters -= 1;
         next.counts[usize::from(winner)] = 0;
         next.batch[usize::from(winner)] = false;
         next.bus = Bus::Held(winner);

@@ -3,9 +3,9 @@
 use crate::rack::{Bus, Event, Outcome, Rack};
 use crate::table::{self, Table};
 
-/// k, the rule, five arrays by number, the last winner, two bytes for the bus, and two for the kept
-/// value of the lines.
-pub const STATE: usize = 2 + 5 * 64 + 3 + 2;
+/// k, the rule, five arrays by number, the last winner, two bytes for the bus, two for the kept value
+/// of the lines, and one for how many cards wait.
+pub const STATE: usize = 2 + 5 * 64 + 3 + 2 + 1;
 /// A state, a letter and a number.
 pub const RECORD: usize = STATE + 2;
 /// A state and five bytes about what became of it; after a save the lent bytes follow.
@@ -13,7 +13,8 @@ pub const ANSWER: usize = STATE + 5;
 
 const LENT: u8 = 0xee;
 
-/// What is asked of a state: an event by its letter, or S for a save to so many bytes.
+/// What is asked of a state: an event by its letter, S for a save to so many bytes, or N for how many
+/// cards wait.
 #[derive(Clone, Copy, Debug, PartialEq, Eq)]
 pub struct Ask {
     pub letter: u8,
@@ -52,6 +53,7 @@ pub fn rack(bytes: &[u8]) -> Rack {
             _ => Bus::Held(bytes_after[2]),
         },
         kept: u16::from_le_bytes([bytes_after[3], bytes_after[4]]),
+        waiters: bytes_after[5],
     }
 }
 
@@ -68,6 +70,7 @@ fn state_bytes(rack: &Rack) -> Vec<u8> {
         Bus::Held(card) => [1, card],
     });
     bytes.extend(rack.kept.to_le_bytes());
+    bytes.push(rack.waiters);
     bytes
 }
 
@@ -107,8 +110,17 @@ pub fn answer(record: &[u8]) -> Vec<u8> {
             letter: b'S',
             number,
         } => save(&rack, usize::from(number)),
+        Ask { letter: b'N', .. } => waiting_count(&rack),
         ask => event(&rack, ask),
     }
+}
+
+fn waiting_count(rack: &Rack) -> Vec<u8> {
+    let (number, count) = match rack.waiting_count() {
+        Ok(count) => (0, count),
+        Err(refusal) => (refusal as u8, 0),
+    };
+    [state_bytes(rack), vec![number, count, 0, 0, 0]].concat()
 }
 
 fn event(rack: &Rack, ask: Ask) -> Vec<u8> {

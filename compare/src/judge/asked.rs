@@ -4,7 +4,7 @@ use super::expect::{expect, shown};
 use super::met::Met;
 use crate::rack::Rack;
 use crate::rackstate::Shared;
-use crate::seen_as_bytes::{answer, answer_length, number_of, record, Ask};
+use crate::seen_as_bytes::{answer, answer_length, number_of, rack, record, Ask};
 
 /// The bytes of both answers to a record must agree.
 pub fn same(record: &[u8], got: &[u8], wanted: &[u8]) -> Result<(), String> {
@@ -19,6 +19,17 @@ pub fn same(record: &[u8], got: &[u8], wanted: &[u8]) -> Result<(), String> {
     ))
 }
 
+/// Where the stored number of waiting cards is right it stays right, whatever is asked and answered.
+fn keeps_counting(record: &[u8], got: &[u8]) -> Result<(), String> {
+    let (before, after) = (rack(record), rack(got));
+    if before.waiters != before.recount() {
+        return Ok(());
+    }
+    let record = shown(record);
+    expect(after.waiters, after.recount())
+        .map_err(|what| format!("cards that wait: {what}; record of {record}"))
+}
+
 /// Puts records to both in one go and gives the answers, which agree byte for byte.
 pub fn hold(program: &Shared, records: &[Vec<u8>], met: &mut Met) -> Result<Vec<Vec<u8>>, String> {
     let lengths: Vec<usize> = records.iter().map(|record| answer_length(record)).collect();
@@ -27,7 +38,9 @@ pub fn hold(program: &Shared, records: &[Vec<u8>], met: &mut Met) -> Result<Vec<
     let mut answers = Vec::new();
     for (record, length) in records.iter().zip(lengths) {
         let (got, after) = rest.split_at(length);
-        same(record, got, &answer(record)).inspect_err(|_| program.end())?;
+        same(record, got, &answer(record))
+            .and_then(|()| keeps_counting(record, got))
+            .inspect_err(|_| program.end())?;
         met.meet(number_of(got));
         answers.push(got.to_vec());
         rest = after;
@@ -46,4 +59,37 @@ pub fn hold_expecting(
     let answers = hold(program, &[record(rack, ask)], met)?;
     expect(number_of(&answers[0]), stated).map_err(|what| format!("{ask:?} of both: {what}"))?;
     Ok(answers.concat())
+}
+
+#[cfg(test)]
+mod tests {
+    use super::keeps_counting;
+    use crate::rack::Rack;
+    use crate::seen_as_bytes::{record, Ask};
+    use crate::table::Table;
+
+    /// A state with so many of two cards waiting and so many stored.
+    fn state(waiting: usize, stored: u8) -> Vec<u8> {
+        let mut rack = Rack::fresh(Table::NONE);
+        rack.waiting[1..=waiting].fill(true);
+        rack.waiters = stored;
+        let ask = Ask {
+            letter: b'N',
+            number: 0,
+        };
+        record(&rack, ask)
+    }
+
+    #[test]
+    fn a_right_number_of_waiting_cards_stays_right() {
+        assert_eq!(keeps_counting(&state(1, 1), &state(2, 2)), Ok(()));
+        assert!(keeps_counting(&state(1, 1), &state(1, 2)).is_err());
+        assert!(keeps_counting(&state(1, 1), &state(2, 1)).is_err());
+        assert!(keeps_counting(&state(0, 0), &state(0, 255)).is_err());
+    }
+
+    #[test]
+    fn a_wrong_one_may_stay_wrong() {
+        assert_eq!(keeps_counting(&state(1, 0), &state(1, 0)), Ok(()));
+    }
 }

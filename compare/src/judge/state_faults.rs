@@ -38,6 +38,12 @@ fn over(low: u8, rng: &mut Rng) -> u8 {
     *rng.pick(&[low, 255, any])
 }
 
+/// The number of waiting cards follows, so that it is no other fault.
+fn put_waiting(rack: &mut Rack, card: usize, waits: bool) {
+    rack.waiting[card] = waits;
+    rack.waiters = rack.recount();
+}
+
 /// Puts the rack under a rule. What the old rule counted, marked and kept on its lines could be more
 /// faults, so it goes.
 fn put_under(rule: u8, rack: &mut Rack) {
@@ -129,7 +135,7 @@ fn winner_faults() -> Vec<Fault> {
     vec![
         ("stranger-waits", |rack, rng| {
             let stranger = stranger(rack, rng);
-            rack.waiting[usize::from(stranger)] = true;
+            put_waiting(rack, stranger.into(), true);
         }),
         ("stranger-won", stranger_won),
         ("last-winner-over-63", |rack, rng| {
@@ -171,24 +177,49 @@ fn kept_faults() -> Vec<Fault> {
     ]
 }
 
+/// Nobody waits but one card, which the state says doesn't.
+fn none_of_one(rack: &mut Rack, rng: &mut Rng) {
+    *rack = Rack::fresh(rack.table);
+    rack.waiting[usize::from(any_card(rack, rng))] = true;
+}
+
+fn waiter_faults() -> Vec<Fault> {
+    vec![
+        ("waiters-one-more", |rack, _| {
+            rack.waiters = rack.recount() + 1
+        }),
+        ("waiters-one-less", |rack, rng| {
+            let card = any_card(rack, rng);
+            put_waiting(rack, card.into(), true);
+            rack.waiters -= 1;
+        }),
+        ("waiters-none-of-one", none_of_one),
+        ("waiters-64", |rack, _| rack.waiters = 64),
+        ("waiters-any-other", |rack, rng| {
+            let other = rng.between(1, 255) as u8;
+            rack.waiters = rack.recount().wrapping_add(other);
+        }),
+    ]
+}
+
 fn count_without_waiting(rack: &mut Rack, rng: &mut Rng) {
     put_under(2, rack);
     let card = usize::from(any_card(rack, rng));
-    rack.waiting[card] = false;
+    put_waiting(rack, card, false);
     rack.counts[card] = over(1, rng);
 }
 
 fn count_over_range(rack: &mut Rack, rng: &mut Rng) {
     put_under(2, rack);
     let card = usize::from(any_card(rack, rng));
-    rack.waiting[card] = true;
+    put_waiting(rack, card, true);
     rack.counts[card] = over(greatest_number(rack.table.k.clamp(1, 6)) + 1, rng);
 }
 
 fn count_under_another_rule(rack: &mut Rack, rng: &mut Rng) {
     put_under_another(2, rack, rng);
     let card = usize::from(any_card(rack, rng));
-    rack.waiting[card] = true;
+    put_waiting(rack, card, true);
     rack.counts[card] = over(1, rng);
 }
 
@@ -210,21 +241,21 @@ fn count_faults() -> Vec<Fault> {
 fn batch_of_a_stranger(rack: &mut Rack, rng: &mut Rng) {
     put_under(3, rack);
     let stranger = usize::from(stranger(rack, rng));
-    rack.waiting[stranger] = rng.chance(1, 2);
+    put_waiting(rack, stranger, rng.chance(1, 2));
     rack.batch[stranger] = true;
 }
 
 fn batch_without_waiting(rack: &mut Rack, rng: &mut Rng) {
     put_under(3, rack);
     let card = usize::from(any_card(rack, rng));
-    rack.waiting[card] = false;
+    put_waiting(rack, card, false);
     rack.batch[card] = true;
 }
 
 fn batch_under_another_rule(rack: &mut Rack, rng: &mut Rng) {
     put_under_another(3, rack, rng);
     let card = usize::from(any_card(rack, rng));
-    rack.waiting[card] = true;
+    put_waiting(rack, card, true);
     rack.batch[card] = true;
 }
 
@@ -251,6 +282,7 @@ pub fn faults() -> Vec<Fault> {
         table_faults(),
         winner_faults(),
         kept_faults(),
+        waiter_faults(),
         count_faults(),
         set_faults(),
     ]

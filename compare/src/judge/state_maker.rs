@@ -26,6 +26,7 @@ fn begin_waiting(rack: &mut Rack, rng: &mut Rng) {
             rack.counts[place] = count(greatest_number(rack.table.k), rng);
         }
     }
+    rack.waiters = rack.recount();
 }
 
 /// None, some or all of the cards that wait are in the batch.
@@ -102,18 +103,18 @@ fn lent(rack: &Rack, rng: &mut Rng) -> u8 {
     *rng.pick(&[needed - 1, needed, needed + 1, needed - 2, 0, 255, any])
 }
 
-/// A letter that names no event and no save.
+/// A letter that names no event, no save and no question.
 fn unknown_letter(rng: &mut Rng) -> u8 {
     loop {
         let any = rng.byte();
-        let letter = *rng.pick(&[b'q', b'a', b'r', b's', b'P', b'B', 0, 255, any]);
-        if !b"QARS".contains(&letter) {
+        let letter = *rng.pick(&[b'q', b'a', b'r', b's', b'n', b'P', b'B', 0, 255, any]);
+        if !b"QARSN".contains(&letter) {
             return letter;
         }
     }
 }
 
-/// Each event, a save and an unknown letter, in any order.
+/// Each event, a save, how many wait, and an unknown letter, in any order.
 pub fn asks(rack: &Rack, rng: &mut Rng) -> Vec<Ask> {
     let any = rng.byte();
     let mut asks = [
@@ -121,6 +122,7 @@ pub fn asks(rack: &Rack, rng: &mut Rng) -> Vec<Ask> {
         (b'A', *rng.pick(&[0, any])),
         (b'R', card(rack, rng)),
         (b'S', lent(rack, rng)),
+        (b'N', *rng.pick(&[0, any])),
         (unknown_letter(rng), card(rack, rng)),
     ]
     .map(|(letter, number)| Ask { letter, number });

@@ -52,7 +52,7 @@ fn hold_refusing(
     let records = records(rack, rng);
     for (record, answer) in records.iter().zip(hold(program, &records, met)?) {
         let stated = match ask(record).letter {
-            b'Q' | b'A' | b'R' | b'S' => 17,
+            b'Q' | b'A' | b'R' | b'S' | b'N' => 17,
             _ => 18,
         };
         expect(number_of(&answer), stated)?;
@@ -68,6 +68,25 @@ fn well_formed(rule: u8, program: &Shared) -> Kind {
         expect(rack.is_well_formed(), true)?;
         let answers = hold(&program, &records(&rack, rng), met)?;
         expect(answers.iter().any(|answer| number_of(answer) == 17), false)
+    })
+}
+
+/// Several asks one after another, each of the state that the product gave back before. Some begin
+/// with a fresh state.
+fn run(rule: u8, program: &Shared) -> Kind {
+    let program = program.clone();
+    Kind::new(format!("state-run-rule-{rule}"), 2, move |rng, met| {
+        let mut state = sound(rule, rng);
+        if rng.chance(1, 4) {
+            state = Rack::fresh(state.table);
+        }
+        for _ in 0..rng.between(5, 40) {
+            let ask = asks(&state, rng)[0];
+            let answers = hold(&program, &[record(&state, ask)], met)?;
+            expect(number_of(&answers[0]) == 17, false)?;
+            state = rack(&answers[0]);
+        }
+        Ok(())
     })
 }
 
@@ -173,6 +192,7 @@ pub fn kinds(program: &Shared) -> Vec<Kind> {
     let mut kinds: Vec<Kind> = (0..=GREATEST_RULE)
         .map(|rule| well_formed(rule, program))
         .collect();
+    kinds.extend((0..=GREATEST_RULE).map(|rule| run(rule, program)));
     kinds.extend([3, 4].map(|rule| renewing(rule, program)));
     kinds.extend(faults().into_iter().map(|fault| ill_formed(fault, program)));
     kinds.extend([faults_together(program), spoilt(program), noisy(program)]);

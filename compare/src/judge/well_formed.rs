@@ -14,8 +14,14 @@ const ARBITRATE: Ask = Ask {
     number: 0,
 };
 
-/// Three events, one of them by a number that no table has, and a save with enough bytes.
-const ASKED: [Ask; 5] = [
+const COUNT: Ask = Ask {
+    letter: b'N',
+    number: 0,
+};
+
+/// Three events, one of them by a number that no table has, a save with enough bytes, and how many
+/// cards wait.
+const ASKED: [Ask; 6] = [
     Ask {
         letter: b'Q',
         number: 2,
@@ -33,7 +39,14 @@ const ASKED: [Ask; 5] = [
         letter: b'S',
         number: 30,
     },
+    COUNT,
 ];
+
+/// The number of waiting cards follows.
+fn wait(rack: &mut Rack, card: u8) {
+    rack.waiting[usize::from(card)] = true;
+    rack.waiters = rack.recount();
+}
 
 /// Whatever is asked of the worked table's fresh state with one fault gives 17.
 fn ill_formed(program: &Shared, name: &str, fault: fn(&mut Rack)) -> Kind {
@@ -61,7 +74,7 @@ fn ill_formed_states() -> Vec<Fault> {
         ("number-over-k", |rack| rack.table.slots[8] = 9),
         ("slot-64", |rack| rack.table.slots[2] = 64),
         ("slot-twice", |rack| rack.table.slots[2] = 3),
-        ("stranger-waits", |rack| rack.waiting[3] = true),
+        ("stranger-waits", |rack| wait(rack, 3)),
         ("stranger-won", |rack| rack.last_winner = 3),
         ("last-winner-64", |rack| rack.last_winner = 64),
         ("stranger-holds", |rack| {
@@ -81,17 +94,17 @@ fn ill_formed_states() -> Vec<Fault> {
 fn ill_formed_counts() -> Vec<Fault> {
     vec![
         ("count-under-rule-1", |rack| {
-            rack.waiting[5] = true;
+            wait(rack, 5);
             rack.counts[5] = 1;
         }),
         ("count-under-rule-3", |rack| {
             rack.table.rule = 3;
-            rack.waiting[5] = true;
+            wait(rack, 5);
             rack.counts[5] = 1;
         }),
         ("count-under-rule-4", |rack| {
             rack.table.rule = 4;
-            rack.waiting[5] = true;
+            wait(rack, 5);
             rack.counts[5] = 1;
         }),
         ("count-without-waiting", |rack| {
@@ -104,7 +117,7 @@ fn ill_formed_counts() -> Vec<Fault> {
         }),
         ("count-over-7-at-k-3", |rack| {
             rack.table.rule = 2;
-            rack.waiting[5] = true;
+            wait(rack, 5);
             rack.counts[5] = 8;
         }),
     ]
@@ -113,12 +126,12 @@ fn ill_formed_counts() -> Vec<Fault> {
 fn ill_formed_sets() -> Vec<Fault> {
     vec![
         ("batch-under-rule-1", |rack| {
-            rack.waiting[5] = true;
+            wait(rack, 5);
             rack.batch[5] = true;
         }),
         ("batch-under-rule-4", |rack| {
             rack.table.rule = 4;
-            rack.waiting[5] = true;
+            wait(rack, 5);
             rack.batch[5] = true;
         }),
         ("batch-of-a-stranger", |rack| {
@@ -141,13 +154,49 @@ fn ill_formed_sets() -> Vec<Fault> {
     ]
 }
 
+/// The stored number of waiting cards differs from those that wait.
+fn ill_formed_waiters() -> Vec<Fault> {
+    vec![
+        ("waiters-1-of-0", |rack| rack.waiters = 1),
+        ("waiters-64-of-0", |rack| rack.waiters = 64),
+        ("waiters-255-of-0", |rack| rack.waiters = 255),
+        ("waiters-0-of-1", |rack| rack.waiting[5] = true),
+        ("waiters-2-of-1", |rack| {
+            rack.waiting[5] = true;
+            rack.waiters = 2;
+        }),
+        ("waiters-1-of-2", |rack| {
+            wait(rack, 2);
+            wait(rack, 5);
+            rack.waiters = 1;
+        }),
+        ("waiters-3-of-2", |rack| {
+            wait(rack, 2);
+            wait(rack, 5);
+            rack.waiters = 3;
+        }),
+    ]
+}
+
+/// So many of 63 cards wait, and both say so.
+fn counts_waiters(count: u8, program: &Shared) -> Kind {
+    let by = program.clone();
+    Kind::named(format!("counts-{count}-waiting"), move |met| {
+        let cards: Vec<(u8, u8)> = (1..=63).map(|card| (card, card)).collect();
+        let (mut rack, _) = Rack::load(&file_with(6, 0, &cards));
+        (1..=count).for_each(|card| wait(&mut rack, card));
+        let answer = hold_expecting(0, &rack, COUNT, &by, met)?;
+        expect(&answer[seen_as_bytes::STATE..], &[0, count, 0, 0, 0])
+    })
+}
+
 /// How many lines each rule has at k = 3.
 const LINES: [(u8, u32); 5] = [(0, 3), (1, 4), (2, 6), (3, 3), (4, 3)];
 
 /// The worked table's cards under a rule, card 2 waiting, with this value kept on the lines.
 fn keeping(rule: u8, kept: u16) -> Rack {
     let (mut rack, _) = Rack::load(&file_with(3, rule, &[(2, 1), (5, 2), (6, 3)]));
-    rack.waiting[2] = true;
+    wait(&mut rack, 2);
     rack.kept = kept;
     rack
 }
@@ -172,7 +221,7 @@ fn kept_values(program: &Shared) -> Vec<Kind> {
 /// The arbitration starts from the kept value, and keeps what the lines settle to: 15, 12, 13.
 fn starts_from_the_kept_value(program: &Shared, met: &mut Met) -> Result<(), String> {
     let mut rack = keeping(1, 15);
-    rack.waiting[5] = true;
+    wait(&mut rack, 5);
     rack.last_winner = 6;
     let answer = hold_expecting(0, &rack, ARBITRATE, program, met)?;
     let (next, report) = answer.split_at(seen_as_bytes::STATE);
@@ -197,7 +246,7 @@ fn others_keep_the_kept_value(program: &Shared, met: &mut Met) -> Result<(), Str
 fn full_counts(cards: &[u8]) -> Rack {
     let (mut rack, _) = Rack::load(&file_with(2, 2, &[(1, 1), (2, 2), (3, 3)]));
     for &card in cards {
-        rack.waiting[usize::from(card)] = true;
+        wait(&mut rack, card);
         rack.counts[usize::from(card)] = 3;
     }
     rack
@@ -205,7 +254,7 @@ fn full_counts(cards: &[u8]) -> Rack {
 
 fn winner_with_full_count(program: &Shared, met: &mut Met) -> Result<(), String> {
     let mut rack = full_counts(&[1]);
-    rack.waiting[3] = true;
+    wait(&mut rack, 3);
     let answer = hold_expecting(0, &rack, ARBITRATE, program, met)?;
     let (next, report) = answer.split_at(seen_as_bytes::STATE);
     // The winner 1, the lines 13 in two bytes, and the stages.
@@ -215,12 +264,19 @@ fn winner_with_full_count(program: &Shared, met: &mut Met) -> Result<(), String>
 }
 
 pub fn kinds(program: &Shared) -> Vec<Kind> {
-    let faults = [ill_formed_states(), ill_formed_counts(), ill_formed_sets()].concat();
+    let faults = [
+        ill_formed_states(),
+        ill_formed_counts(),
+        ill_formed_sets(),
+        ill_formed_waiters(),
+    ]
+    .concat();
     let mut kinds: Vec<Kind> = faults
         .into_iter()
         .map(|(name, fault)| ill_formed(program, name, fault))
         .collect();
     kinds.extend(kept_values(program));
+    kinds.extend([0, 1, 2, 62, 63].map(|count| counts_waiters(count, program)));
     let by = program.clone();
     kinds.push(Kind::named("starts-from-the-kept-value", move |met| {
         starts_from_the_kept_value(&by, met)

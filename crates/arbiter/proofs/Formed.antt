@@ -1,18 +1,20 @@
 -- A well-formed state, part by part, and that a freshly loaded good table is one. Assumes nothing.
 use Prim.Native.Nat.{ℕ, _^_, _≤_, _<_}
-use mathlib.Core.Bool.{Bool, true, false, _&&_, false≢true}
+use mathlib.Core.Bool.{Bool, true, false, not, _&&_, false≢true}
 use mathlib.Core.Logic.{_⊎_, inl, inr, _≢_}
-use mathlib.Core.Path.{_≡_, refl, sym, _∙_}
+use mathlib.Core.Path.{_≡_, refl, sym, ap, _∙_}
 use lib.Dec.{eqb}
 use lib.ListN.{length, length-replicate, List·getD-eq-default, replicate}
 use lib.Pow.{pow-pos}
 use borrow.Author.Tests.{ltb-true, lt-ltb, eqb-true, eqb-false, eq-eqb, ne-eqb}
 use Rattle.arbiter.proofs.Tests.{and-left, and-right, otherwise, both, if-so, or-so, replicate-default}
 use Rattle.arbiter.specs.State.{waits, countOf, inBatch, isInhibited, isCard, markFits, setsFit, markOk, sizedOk, lastOk, busOk, linesOf}
-use Rattle.arbiter.specs.State.{wellFormed, freshOf}
+use Rattle.arbiter.specs.State.{recount, wellFormed, freshOf}
 use Rattle.arbiter.specs.declared.RackState.{RackState}
 use Rattle.cards.proofs.Below.{implied, le-or-lt, all-at, all-each}
+use Rattle.cards.proofs.Counted.{any-counted, count-nobody}
 use Rattle.cards.proofs.TableKnown.{table-known, card-range}
+use Rattle.cards.specs.Below.{anyBelow}
 use Rattle.cards.specs.Table.{tableGood}
 use Rattle.cards.specs.declared.Table.{Table}
 use Rattle.contest.specs.Marks.{isIn}
@@ -36,6 +38,7 @@ pub record Formed (s : RackState) : Type 0 where
   pub last-known : lastOk s ≡ true
   pub bus-known : busOk s ≡ true
   pub value-small : s .value < 2 ^ linesOf s
+  pub waiters-counted : s .waiters ≡ recount (s .waiting)
 
 mark-of : (s : RackState) (n : ℕ) → markOk s n ≡ true → Mark s n
 unfolding markFits setsFit
@@ -77,6 +80,7 @@ formed-of s e =
       last-known = search (e, and-left, and-right);
       bus-known = search (e, and-left, and-right);
       value-small = ltb-true (s .value) (2 ^ linesOf s) (search (e, and-left, and-right));
+      waiters-counted = eqb-true (s .waiters) (recount (s .waiting)) (search (e, and-left, and-right));
     }
   where
     sized : sizedOk s ≡ true
@@ -88,8 +92,8 @@ of-formed s f =
     both _ _ (f .table-good) (both _ _
     (both _ _ (both _ _ (eq-eqb (length (s .waiting)) 64 (f .waiting-size)) (eq-eqb (length (s .counts)) 64 (f .counts-size)))
     (both _ _ (eq-eqb (length (s .batch)) 64 (f .batch-size)) (eq-eqb (length (s .inhibited)) 64 (f .inhibited-size))))
-    (both _ _ (both _ _ (both _ _ (all-each 64 (markOk s) (λ n l. of-mark s n (f .marks n l))) (f .last-known)) (f .bus-known))
-    (lt-ltb (s .value) (2 ^ linesOf s) (f .value-small))))
+    (both _ _ (both _ _ (both _ _ (both _ _ (all-each 64 (markOk s) (λ n l. of-mark s n (f .marks n l))) (f .last-known)) (f .bus-known))
+    (lt-ltb (s .value) (2 ^ linesOf s) (f .value-small))) (eq-eqb (s .waiters) (recount (s .waiting)) (f .waiters-counted))))
 
 -- what a well-formed state gives
 module _ (s : RackState) (f : Formed s) where
@@ -98,6 +102,20 @@ module _ (s : RackState) (f : Formed s) where
 
   pub formed-rule : s .table .rule ≤ 4
   formed-rule = table-known (s .table) (f .table-good) .rule
+
+  -- the stored count tells whether some card waits
+  stored-tells : anyBelow 64 (waits s) ≡ not (eqb (s .waiters) 0)
+  stored-tells = any-counted 64 (waits s) ∙ ap (λ (n : ℕ). not (eqb n 0)) (sym (f .waiters-counted))
+
+  pub some-wait : eqb (s .waiters) 0 ≡ false → anyBelow 64 (waits s) ≡ true
+  some-wait e = stored-tells ∙ ap not e
+
+  pub some-stored : anyBelow 64 (waits s) ≡ true → eqb (s .waiters) 0 ≡ false
+  some-stored t = go (eqb (s .waiters) 0) (sym stored-tells ∙ t)
+    where
+      go : (b : Bool) → not b ≡ true → b ≡ false
+      go true e = absurd (false≢true e)
+      go false e = refl
 
   pub waiting-below : (a : ℕ) → waits s a ≡ true → a < 64
   waiting-below a t = go (le-or-lt 64 a)
@@ -146,7 +164,11 @@ fresh-well-formed t good =
       last-known = refl;
       bus-known = refl;
       value-small = pow-pos (linesBy (t .k) (t .rule));
+      waiters-counted = nobody-counted;
     })
   where
+    nobody-counted : 0 ≡ recount (replicate 64 false)
+    nobody-counted = count-nobody 64 (isIn (replicate 64 false)) (λ n. replicate-default {A = Bool} 64 n false)
+
     nobody : (n : ℕ) → isIn (replicate 64 false) n ≡ true → ⊥
     nobody n t = false≢true (sym (replicate-default {A = Bool} 64 n false) ∙ t)

@@ -1,5 +1,5 @@
 -- Every event keeps a state well formed. Assumes nothing.
-use Prim.Native.Nat.{ℕ, _+_, _^_, _<_}
+use Prim.Native.Nat.{ℕ, _+_, _-_, _^_, _<_}
 use native.Mathlib.Omega.{arith}
 use mathlib.Core.Bool.{Bool, true, false, cond, not, _&&_, true≢false, false≢true}
 use mathlib.Core.Logic.{_⊎_, inl, inr, _≢_}
@@ -7,20 +7,21 @@ use mathlib.Core.Path.{_≡_, refl, sym, ap, _∙_}
 use lib.Dec.{ltb, eqb}
 use lib.ListN.{length, set, replicate, length-set, length-replicate}
 use lib.Pow.{pow-pos}
-use lib.Seq.{getD-set-other}
+use lib.Seq.{getD-set-same, getD-set-other}
 use borrow.Author.Tests.{lt-ltb, eq-eqb, eqb-true}
 use Rattle.arbiter.proofs.Formed.{Mark, Formed, formed-of, of-formed, same-mark}
 use Rattle.arbiter.proofs.Laws.{winner-count, loser-count, other-count, counts-length, not-full}
-use Rattle.arbiter.proofs.Numbers.{wide, greatest-fits, value-greatest}
+use Rattle.arbiter.proofs.Numbers.{competitor-waits, wide, greatest-fits, value-greatest}
 use Rattle.arbiter.proofs.Seen.{NoGrant, refused, full, asked, handed, Seen, seen, quiet, grant}
 use Rattle.arbiter.proofs.Tests.{and-right, both, or-so, set-default, replicate-default}
 use Rattle.arbiter.proofs.Winner.{Won}
 use Rattle.arbiter.specs.Arbitrate.{somePreferred, batchNow, inhibitedNow, valueNow, someLoserFull, granted, eventOf}
-use Rattle.arbiter.specs.Events.{requested, released}
-use Rattle.arbiter.specs.State.{waits, countOf, inBatch, isCard, linesOf, wellFormed}
+use Rattle.arbiter.specs.Events.{oneWaits, requested, released}
+use Rattle.arbiter.specs.State.{waits, countOf, inBatch, isCard, linesOf, recount, wellFormed}
 use Rattle.arbiter.specs.declared.RackState.{RackState}
 use Rattle.cards.proofs.Below.{same-or-not}
-use Rattle.cards.proofs.TableKnown.{table-card}
+use Rattle.cards.proofs.Counted.{count-most, count-one-more}
+use Rattle.cards.proofs.TableKnown.{table-card, table-range}
 use Rattle.cards.specs.Table.{inTable}
 use Rattle.contest.specs.Marks.{isIn}
 
@@ -37,8 +38,21 @@ requested-formed s c t new f =
       last-known = f .last-known;
       bus-known = f .bus-known;
       value-small = f .value-small;
+      waiters-counted = one-more;
     }
   where
+    one-more : oneWaits (s .waiters) ≡ recount (set (s .waiting) c true)
+    one-more =
+        let more : recount (set (s .waiting) c true) ≡ s .waiters + 1 =
+        count-one-more (waits s) (isIn (set (s .waiting) c true)) c (λ n d. getD-set-other (s .waiting) c n true false d) new
+        (getD-set-same (s .waiting) c true false (omega (arith, inside, f .waiting-size))) 64 inside ∙ rw (f .waiters-counted)
+        in
+        let below : s .waiters < 64 = omega (arith, more, count-most 64 (isIn (set (s .waiting) c true))) in
+        rw (lt-ltb (s .waiters) 64 below) (sym more)
+      where
+        inside : c < 64
+        inside = table-range (s .table .slots) c t
+
     go : (n : ℕ) → Mark s n → (n ≡ c) ⊎ (n ≢ c) → Mark (requested s c) n
     go n mark (inl p) =
         record {
@@ -63,6 +77,7 @@ released-formed s c known f =
       last-known = f .last-known;
       bus-known = refl;
       value-small = f .value-small;
+      waiters-counted = f .waiters-counted;
     }
   where
     size : (u : Bool) → length (cond u (set (s .inhibited) c true) (s .inhibited)) ≡ length (s .inhibited)
@@ -185,6 +200,14 @@ module _ (s : RackState) (w : ℕ) (room : someLoserFull s w ≡ false) (won : W
           zero-count : countOf (granted s w) n ≡ 0
           zero-count = rw p (winner-count s w (won .below))
 
+  one-less : s .waiters - 1 ≡ recount (set (s .waiting) w false)
+  one-less =
+      let more : recount (s .waiting) ≡ recount (set (s .waiting) w false) + 1 =
+      count-one-more (isIn (set (s .waiting) w false)) (waits s) w (λ n d. sym (getD-set-other (s .waiting) w n false false d))
+      (set-default (s .waiting) w false) (competitor-waits s w (won .competing)) 64 (won .below)
+      in
+      omega (arith, more, won .formed .waiters-counted)
+
   granted-formed : Formed (granted s w)
   unfolding granted
   granted-formed =
@@ -198,6 +221,7 @@ module _ (s : RackState) (w : ℕ) (room : someLoserFull s w ≡ false) (won : W
         last-known = or-so (eqb w 0) (inTable (s .table .slots) w) (λ _. winner-known);
         bus-known = both (eqb w w) (inTable (s .table .slots) w) (eq-eqb w w refl) winner-known;
         value-small = value-now s (won .formed);
+        waiters-counted = one-less;
       }
 
 formed-next : (s : RackState) (letter number : ℕ) → Formed s → Formed (eventOf s letter number .state)

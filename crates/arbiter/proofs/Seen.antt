@@ -7,7 +7,7 @@ use mathlib.Core.Logic.{_≢_}
 use mathlib.Core.Path.{_≡_, refl, ap}
 use lib.Dec.{eqb}
 use borrow.Author.Tests.{eqb-true, eqb-false}
-use Rattle.arbiter.proofs.Formed.{formed-of}
+use Rattle.arbiter.proofs.Formed.{formed-of, some-wait}
 use Rattle.arbiter.proofs.Numbers.{settles}
 use Rattle.arbiter.proofs.Refusals.{may-request, may-release, MayArbitrate, may-arbitrate}
 use Rattle.arbiter.proofs.Winner.{Won, won}
@@ -16,7 +16,6 @@ use Rattle.arbiter.specs.Events.{answered, answeredBy, requested, reques
 use Rattle.arbiter.specs.State.{waits, isClosed, isHolder, wellFormed}
 use Rattle.arbiter.specs.declared.Outcome.{Outcome}
 use Rattle.arbiter.specs.declared.RackState.{RackState}
-use Rattle.cards.specs.Below.{anyBelow}
 use Rattle.cards.specs.Table.{inTable}
 use Rattle.lines.specs.declared.Settled.{Settled}
 
@@ -68,13 +67,13 @@ arbitrated-seen s may =
     let done : settlingOf s .answer ≡ 0 = ap (λ (t : Settled). t .answer) (settles s (formed-of s (may .told))) in
     rw done
     (either (someLoserFull s (winnerOf s)) (λ f. quiet refl (full _ (may .told) f))
-    (λ room. grant refl (may .free) room refl (won s (may .told) (may .some))))
+    (λ room. grant refl (may .free) room refl (won s (may .told) (some-wait s (formed-of s (may .told)) (may .some)))))
 
 arbitrate-seen : (s : RackState) → Seen s (arbitrateOf s)
 unfolding arbitrateRefusal
 arbitrate-seen s =
     by-refusal s (arbitrateRefusal (wellFormed s) s) (arbitrated s)
-    (no-16 (not (wellFormed s)) (isClosed (s .bus)) (not (anyBelow 64 (waits s))) 17 13 14 (omega arith) (omega arith) (omega arith))
+    (no-16 (not (wellFormed s)) (isClosed (s .bus)) (eqb (s .waiters) 0) 17 13 14 (omega arith) (omega arith) (omega arith))
     (λ none. arbitrated-seen s (may-arbitrate (wellFormed s) s none))
 
 pub seen : (s : RackState) (letter number : ℕ) → Seen s (eventOf s letter number)

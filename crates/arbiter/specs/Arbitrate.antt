@@ -70,7 +70,7 @@ unfoldable pub someLoserFull : RackState → ℕ → Bool
 someLoserFull s w = eqb (s .table .rule) 2 && anyBelow 64 (fullLoser (2 ^ s .table .k - 1) (s .waiting) (s .counts) w)
 
 -- The winner stops waiting, its count becomes 0, it leaves the batch, it holds the bus and is the last winner. Under rule 2 every loser's count
--- grows by 1: losers are the cards that still wait. The lines keep their settled value.
+-- grows by 1: losers are the cards that still wait. The lines keep their settled value, and one card less waits.
 abbrev pub oneMore : List Bool → List ℕ → ℕ → ℕ
 oneMore waiting counts a = cond (isIn waiting a) (getD counts a 0 + 1) (getD counts a 0)
 
@@ -86,7 +86,7 @@ countsAfter s w = losersCounted (s .table .rule) (winnerStopped s w) (set (s .co
 unfoldable pub granted : RackState → ℕ → RackState
 granted s w =
     withValue
-    (withSets (withBus (withMarks s (winnerStopped s w) (countsAfter s w)) w (Held w)) (set (batchNow s) w false) (inhibitedNow s))
+    (withSets (withBus (withMarks s (winnerStopped s w) (countsAfter s w) (s .waiters - 1)) w (Held w)) (set (batchNow s) w false) (inhibitedNow s))
     (valueNow s)
 
 -- the outcome of a grant to w with these settled lines
@@ -100,9 +100,9 @@ wonBy s w t = cond (someLoserFull s w) (answered s 16) (grantTo s w t)
 unfoldable pub arbitrated : RackState → Outcome
 arbitrated s = cond (eqb (settlingOf s .answer) 0) (wonBy s (winnerOf s) (settlingOf s)) (answered s 17)
 
--- an arbitration: 17, 13, 14, then 16 by the winner
+-- an arbitration: 17, 13, 14 by the stored number of waiting cards, then 16 by the winner
 unfoldable pub arbitrateRefusal : Bool → RackState → ℕ
-arbitrateRefusal formed s = cond (not formed) 17 (cond (isClosed (s .bus)) 13 (cond (not (anyBelow 64 (waits s))) 14 0))
+arbitrateRefusal formed s = cond (not formed) 17 (cond (isClosed (s .bus)) 13 (cond (eqb (s .waiters) 0) 14 0))
 
 -- As the event is told whether the state is well formed. It asks the width again, since a caller may tell it what is not so, and 2 ^ k is worked out
 -- in 16 bits: a width over 6 is that of no well-formed state, so 17 is the answer there too.

@@ -28,6 +28,7 @@ stateOf table m hold = record {
   last = hold .last;
   bus = hold .bus;
   value = hold .value;
+  waiters = hold .waiters;
 }
 
 abbrev pub tableOf : ℕ → ℕ → List ℕ → Table
@@ -35,7 +36,7 @@ tableOf k rule slots = record { k = k; rule = rule; slots = slots }
 
 -- what is left of a state beside the table and the marks, and of an outcome
 abbrev pub holdOf : RackState → Hold
-holdOf s = record { last = s .last; bus = s .bus; value = s .value }
+holdOf s = record { last = s .last; bus = s .bus; value = s .value; waiters = s .waiters }
 
 abbrev pub replyOf : Outcome → Reply
 replyOf o = record {

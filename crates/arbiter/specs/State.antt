@@ -7,7 +7,7 @@ use lib.ListN.{length, getD, replicate}
 use Rattle.arbiter.specs.declared.Bus.{Bus}
 use Rattle.arbiter.specs.declared.Bus.the-variants.{Free, Held}
 use Rattle.arbiter.specs.declared.RackState.{RackState}
-use Rattle.cards.specs.Below.{allBelow}
+use Rattle.cards.specs.Below.{allBelow, countBelow}
 use Rattle.cards.specs.Table.{hasCard, inTable, tableGood}
 use Rattle.cards.specs.declared.Table.{Table}
 use Rattle.contest.specs.Marks.{isIn}
@@ -76,18 +76,26 @@ linesOf s = linesBy (s .table .k) (s .table .rule)
 abbrev pub valueOk : RackState → Bool
 valueOk s = ltb (s .value) (2 ^ linesOf s)
 
+-- how many cards wait, counted
+abbrev pub recount : List Bool → ℕ
+recount waiting = countBelow 64 (isIn waiting)
+
+-- the stored number of waiting cards equals a recount
+abbrev pub waitersOk : RackState → Bool
+waitersOk s = eqb (s .waiters) (recount (s .waiting))
+
 -- each array has its 64 places, as every state of the program has
 abbrev pub sizedOk : RackState → Bool
 sizedOk s =
     (eqb (length (s .waiting)) 64 && eqb (length (s .counts)) 64) && (eqb (length (s .batch)) 64 && eqb (length (s .inhibited)) 64)
 
 unfoldable pub wellFormed : RackState → Bool
-wellFormed s = tableGood (s .table) && (sizedOk s && (allBelow 64 (markOk s) && lastOk s && busOk s && valueOk s))
+wellFormed s = tableGood (s .table) && (sizedOk s && (allBelow 64 (markOk s) && lastOk s && busOk s && valueOk s && waitersOk s))
 
 -- The next state, by what changes in it.
 
-abbrev pub withMarks : RackState → List Bool → List ℕ → RackState
-withMarks s waiting counts = record {
+abbrev pub withMarks : RackState → List Bool → List ℕ → ℕ → RackState
+withMarks s waiting counts waiters = record {
   table = s .table;
   waiting = waiting;
   counts = counts;
@@ -96,6 +104,7 @@ withMarks s waiting counts = record {
   last = s .last;
   bus = s .bus;
   value = s .value;
+  waiters = waiters;
 }
 
 abbrev pub withSets : RackState → List Bool → List Bool → RackState
@@ -108,6 +117,7 @@ withSets s batch inhibited = record {
   last = s .last;
   bus = s .bus;
   value = s .value;
+  waiters = s .waiters;
 }
 
 abbrev pub withBus : RackState → ℕ → Bus → RackState
@@ -120,6 +130,7 @@ withBus s last bus = record {
   last = last;
   bus = bus;
   value = s .value;
+  waiters = s .waiters;
 }
 
 abbrev pub withValue : RackState → ℕ → RackState
@@ -132,9 +143,10 @@ withValue s value = record {
   last = s .last;
   bus = s .bus;
   value = value;
+  waiters = s .waiters;
 }
 
--- freshly loaded: nobody waits, counts 0, the two sets empty, no last winner, bus free, lines at 0
+-- freshly loaded: nobody waits, counts 0, the two sets empty, no last winner, bus free, lines at 0, no card counted as waiting
 abbrev pub freshOf : Table → RackState
 freshOf t = record {
   table = t;
@@ -145,4 +157,5 @@ freshOf t = record {
   last = 0;
   bus = Free;
   value = 0;
+  waiters = 0;
 }

@@ -88,7 +88,7 @@ pub(crate) fn granted_in(
     w: u8,
     t: Settled,
 ) -> Reply
-    requires { ⌜ (w < 64) × (k ≤ 6) ⌝ }
+    requires { ⌜ (w < 64) × ((k ≤ 6) × (0 < hold .waiters)) ⌝ }
     ensures { λ r. ⌜ ((slots : List ℕ) (s : RackState)
         → s ≡ stateOf (tableOf k rule slots) (marks (now (waiting .entry)) (now (counts .entry)) (now (batch .entry)) (now (inhibited .entry))) hold
         → anew ≡ not (somePreferred s)
@@ -100,6 +100,7 @@ pub(crate) fn granted_in(
     }
     renew_batch(rule, anew, waiting, batch);
     clear_inhibitions(rule, anew, inhibited);
+    let waiters = hold.waiters - 1;
     let i = w as usize;
     waiting[i] = false;
     counts[i] = 0;
@@ -113,6 +114,7 @@ pub(crate) fn granted_in(
             last: w,
             bus: Bus::Held(w),
             value: t.lines,
+            waiters,
         },
         answer: 0,
         winner: w,
@@ -132,7 +134,7 @@ pub(crate) fn arbitrated_in(
     batch: &mut [bool; 64],
     inhibited: &mut [bool; 64],
 ) -> Reply
-    requires { ⌜ k ≤ 6 ⌝ }
+    requires { ⌜ (k ≤ 6) × (0 < hold .waiters) ⌝ }
     ensures { λ r. ⌜ ((slots : List ℕ)
         → Leaves (arbitrated (stateOf (tableOf k rule slots)
         (marks (now (waiting .entry)) (now (counts .entry)) (now (batch .entry)) (now (inhibited .entry))) hold)) r

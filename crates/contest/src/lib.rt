@@ -37,7 +37,7 @@ pub fn lines_of(k: u8, rule: u8) -> u8
 }
 
 // Whether some card is marked.
-pub fn some_marked(cards: &[bool; 64]) -> bool
+fn some_marked(cards: &[bool; 64]) -> bool
     ensures { λ r. ⌜ r ≡ anyBelow 64 (isIn (now (cards .entry))) ⌝ }
 {
     let mut some = false;

@@ -192,6 +192,7 @@ both-full = record {
   last = 0;
   bus = Free;
   value = 0;
+  waiters = 2;
 }
 
 pub full-refused : (wellFormed both-full ≡ true) × (outcomeOf both-full A .answer ≡ 16)

@@ -6,7 +6,7 @@ use mathlib.Core.List.{List, [], _++_}
 use mathlib.Core.Path.{_≡_, sym, ap, _∙_}
 use lib.ListN.{length, replicate, drop}
 use Rattle.arbiter.specs.Arbitrate.{arbitrateOf, eventOf}
-use Rattle.arbiter.specs.Events.{requestOf, releaseOf}
+use Rattle.arbiter.specs.Events.{answered, requestOf, releaseOf}
 use Rattle.arbiter.specs.Lent.{stateOf, Leaves, Requests, Releases, Arbitrates}
 use Rattle.arbiter.specs.State.{wellFormed, freshOf}
 use Rattle.arbiter.specs.declared.Hold.{Hold}
@@ -24,6 +24,7 @@ use Rattle.laptop.specs.Settle.{SettlesBytes}
 use Rattle.laptop.specs.Table.{GivesTable}
 use Rattle.lines.specs.Settle.{Settles, refusal}
 use Rattle.lines.specs.Settling.{applied}
+use Rattle.rack.specs.HowMany.{howManyOf}
 use Rattle.rack.specs.Files.{loadOf, saveOf, saveAfter}
 use Rattle.report.specs.Report.{reportOf}
 use Rattle.report.specs.Text.{openingText, cardText, rowText}
@@ -99,9 +100,6 @@ span-determined k x y p q = one-result (p .0) (q .0)
 pub lines-of-determined : (k rule : ℕ) → Determined (λ r. r ≡ linesGiven k rule)
 lines-of-determined k rule x y = one-result
 
-pub some-marked-determined : (cards : List Bool) → Determined (λ r. r ≡ anyBelow 64 (isIn cards))
-some-marked-determined cards x y = one-result
-
 pub some-first-determined : (rule : ℕ) (waiting batch inhibited : List Bool) → Determined (λ r. r ≡ anyBelow 64 (firstAt rule waiting batch inhibited))
 some-first-determined rule waiting batch inhibited x y = one-result
 
@@ -132,6 +130,12 @@ arbitrate-in-determined formed k rule m hold x y b c p q = one-reply x y b c (p 
 
 pub well-formed-determined : (s : RackState) → Determined (λ r. r ≡ wellFormed s)
 well-formed-determined s x y = one-result
+
+pub refused-determined : (s : RackState) (number : ℕ) → Determined (λ r. r ≡ answered s number)
+refused-determined s number x y = one-result
+
+pub waiting-count-determined : (s : RackState) → Determined (λ r. r ≡ howManyOf s)
+waiting-count-determined s x y = one-result
 
 pub fresh-determined : (t : Table) → Determined (λ r. r ≡ freshOf t)
 fresh-determined t x y = one-result

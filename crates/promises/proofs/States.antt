@@ -1,24 +1,29 @@
 -- Demand 1 for states and events. Assumes nothing.
 use Prim.Native.Nat.{ℕ}
-use mathlib.Core.Bool.{Bool, true, false, cond}
+use native.Mathlib.Omega.{arith}
+use mathlib.Core.Bool.{Bool, true, false, cond, true≢false}
 use mathlib.Core.List.{List}
 use mathlib.Core.Logic.{_⊎_, inl, inr, _≢_}
-use mathlib.Core.Path.{_≡_, refl, ap}
+use mathlib.Core.Path.{_≡_, refl, sym, ap, _∙_}
 use lib.Dec.{eqb}
-use Rattle.arbiter.proofs.Formed.{formed-of, fresh-well-formed}
+use Rattle.arbiter.proofs.Formed.{formed-of, of-formed, some-stored, fresh-well-formed}
 use Rattle.arbiter.proofs.Kept.{stays-well-formed}
 use Rattle.arbiter.proofs.Numbers.{settles}
+use Rattle.arbiter.proofs.Seen.{NoGrant, refused, full, asked, handed, Seen, quiet, grant, seen}
 use Rattle.arbiter.specs.Arbitrate.{settlingOf, winnerOf, someLoserFull, grantTo, wonBy, arbitrated, arbitrateRefusal, eventOf}
 use Rattle.arbiter.specs.Events.{answered, answeredBy, requestRefusal, releaseRefusal}
-use Rattle.arbiter.specs.State.{wellFormed, freshOf}
+use Rattle.arbiter.specs.State.{recount, wellFormed, freshOf}
 use Rattle.arbiter.specs.declared.Outcome.{Outcome}
 use Rattle.arbiter.specs.declared.RackState.{RackState}
 use Rattle.cardfile.proofs.LoadedGood.{loaded-good, refused-zero}
 use Rattle.cardfile.specs.Format.{refusedWith}
 use Rattle.cards.specs.Table.{tableGood}
 use Rattle.lines.specs.declared.Settled.{Settled}
-use Rattle.promises.specs.States.{StaysWellFormed, LoadsWellFormed, RefusedEventKeeps, IllFormedRefused, OnlyFullRefuses}
+use Rattle.promises.specs.States.{StaysWellFormed, LoadsWellFormed, RefusedEventKeeps, IllFormedRefused, CountKept, CountTold, OnlyFullRefuses}
+use Rattle.promises.specs.Runs.{outcomeOf, next}
 use Rattle.rack.specs.Files.{loadOf}
+use Rattle.rack.specs.HowMany.{howManyOf}
+use Rattle.rack.specs.declared.HowMany.{HowMany}
 
 pub events-keep-formed : StaysWellFormed
 events-keep-formed s e = stays-well-formed s (e .letter) (e .number)
@@ -71,12 +76,39 @@ pub only-full-refuses : OnlyFullRefuses
 unfolding answeredBy arbitrateRefusal arbitrated wonBy
 only-full-refuses s ok free some =
     let done : settlingOf s .answer ≡ 0 = ap (λ (t : Settled). t .answer) (settles s (formed-of s ok)) in
-    rw (ok, free, some, done) (by-room (someLoserFull s (winnerOf s)))
+    rw (ok, free, some-stored s (formed-of s ok) some, done) (by-room (someLoserFull s (winnerOf s)))
   where
     by-room : (full : Bool) → (cond full (answered s 16) (grantTo s (winnerOf s) (settlingOf s)) .answer ≡ 0)
         ⊎ (cond full (answered s 16) (grantTo s (winnerOf s) (settlingOf s)) .answer ≡ 16)
     by-room true = inr refl
     by-room false = inl refl
+
+-- ---- the stored number of waiting cards
+
+pub count-kept : CountKept
+count-kept s e right = go (wellFormed s) refl (seen s (e .letter) (e .number))
+  where
+    unmoved : {x : RackState} {n : ℕ} → wellFormed s ≡ false → NoGrant s x n → x .waiters ≡ recount (x .waiting)
+    unmoved ill (refused i j) = right
+    unmoved ill (full w ok h) = right
+    unmoved ill (asked c ok t w) = absurd (true≢false (sym ok ∙ ill))
+    unmoved ill (handed c ok t h) = absurd (true≢false (sym ok ∙ ill))
+
+    go : (b : Bool) → wellFormed s ≡ b → Seen s (outcomeOf s e) → next s e .waiters ≡ recount (next s e .waiting)
+    go true ok _ = formed-of (next s e) (stays-well-formed s (e .letter) (e .number) ok) .waiters-counted
+    go false ill (quiet z g) = unmoved ill g
+    go false ill (grant z free room st won) = absurd (true≢false (sym (of-formed s (won .formed)) ∙ ill))
+
+pub count-told : CountTold
+unfolding howManyOf
+count-told s = go (wellFormed s) refl
+  where
+    told : Bool → HowMany
+    told b = cond b (record { answer = 0; count = s .waiters }) (record { answer = 17; count = 0 })
+
+    go : (b : Bool) → wellFormed s ≡ b → told b .answer ≡ 0 → told b .count ≡ recount (s .waiting)
+    go true ok done = formed-of s ok .waiters-counted
+    go false ill done = let none : _≡_ {A = ℕ} 17 0 = done in absurd (omega arith)
 
 -- ---- a refused load
 

@@ -1,6 +1,5 @@
 // What events take and answer: what is left of a state beside its table and its marks, and outcomes.
 ghost use mathlib.Core.Path.{_≡_};
-ghost use Rattle.arbiter.specs.Events.{answered};
 ghost use Rattle.arbiter.specs.Lent.{holdOf, outcomeFrom};
 ghost use Rattle.contest.specs.Marks.{marks};
 use arbiter::Hold;
@@ -10,7 +9,7 @@ use arbiter::Reply;
 use arbiter::state_of;
 use cards::Table;
 
-// The last winner, the bus and the kept value of a state.
+// The last winner, the bus, the kept value and the number of waiting cards of a state.
 pub(crate) fn hold_of(s: RackState) -> Hold
     ensures { λ r. ⌜ r ≡ holdOf s ⌝ }
 {
@@ -19,19 +18,7 @@ pub(crate) fn hold_of(s: RackState) -> Hold
         last: s.last,
         bus,
         value: s.value,
-    }
-}
-
-// A refusal with the state given.
-pub(crate) fn refused(s: RackState, number: u8) -> Outcome
-    ensures { λ r. ⌜ r ≡ answered s number ⌝ }
-{
-    Outcome {
-        state: s,
-        answer: number,
-        winner: 0,
-        lines: 0,
-        stages: 0,
+        waiters: s.waiters,
     }
 }
 

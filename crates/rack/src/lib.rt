@@ -1,14 +1,14 @@
-// The rack: a state by value, which holds the card table, one array for each mark of a card, the bus, and the value that the lines keep; its events;
-// and its file.
+// The rack: a state by value, which holds the card table, one array for each mark of a card, the bus, the value that the lines keep, and how many
+// cards wait; its events; and its file.
 ghost use mathlib.Core.Path.{_≡_};
 ghost use lib.ListN.{length};
 ghost use Rattle.arbiter.specs.Arbitrate.{arbitrateOf, eventOf};
-ghost use Rattle.arbiter.specs.Events.{requestOf, releaseOf};
+ghost use Rattle.arbiter.specs.Events.{answered, requestOf, releaseOf};
 ghost use Rattle.arbiter.specs.State.{wellFormed, freshOf};
+ghost use Rattle.rack.specs.HowMany.{howManyOf};
 ghost use Rattle.rack.specs.Files.{loadOf, saveOf, saveAfter};
 use answers::hold_of;
 use answers::outcome_of;
-use answers::refused;
 use arbiter::Bus;
 use arbiter::Outcome;
 use arbiter::RackState;
@@ -21,9 +21,11 @@ use marks::bus_ok;
 use marks::last_ok;
 use marks::marks_ok;
 use marks::value_ok;
+use recount::waiters_ok;
 
 mod answers;
 mod marks;
+mod recount;
 
 // What a load gives: the answer and a state.
 pub struct Loaded {
@@ -31,17 +33,39 @@ pub struct Loaded {
     pub state: RackState,
 }
 
+// How many cards wait: the answer and the count.
+pub struct HowMany {
+    pub answer: u8,
+    pub count: u8,
+}
+
 // Whether the state is well formed. A state that is not is refused with 17 by every event.
 pub fn well_formed(s: RackState) -> bool
     ensures { λ r. ⌜ r ≡ wellFormed s ⌝ }
 {
     if cards::table_good(s.table) {
-        return marks_ok(s) & last_ok(s) & bus_ok(s) & value_ok(s);
+        return marks_ok(s) & last_ok(s) & bus_ok(s) & value_ok(s) & waiters_ok(s);
     }
     false
 }
 
-// A freshly loaded state: nobody waits, counts 0, the two sets empty, last winner 0, bus free, lines at 0.
+// How many cards wait, as the state stores it: 17, or 0 with the count.
+pub fn waiting_count(s: RackState) -> HowMany
+    ensures { λ r. ⌜ r ≡ howManyOf s ⌝ }
+{
+    if well_formed(s) {
+        return HowMany {
+            answer: 0,
+            count: s.waiters,
+        };
+    }
+    HowMany {
+        answer: 17,
+        count: 0,
+    }
+}
+
+// A freshly loaded state: nobody waits, counts 0, the two sets empty, last winner 0, bus free, lines at 0, no card counted as waiting.
 pub fn fresh(t: Table) -> RackState
     ensures { λ r. ⌜ r ≡ freshOf t ⌝ }
 {
@@ -54,6 +78,7 @@ pub fn fresh(t: Table) -> RackState
         last: 0,
         bus: Bus::Free,
         value: 0,
+        waiters: 0,
     }
 }
 
@@ -108,6 +133,19 @@ pub fn arbitrate(s: RackState) -> Outcome
         hold,
     );
     outcome_of(table, waiting, counts, batch, inhibited, r)
+}
+
+// A refusal with the state given.
+pub fn refused(s: RackState, number: u8) -> Outcome
+    ensures { λ r. ⌜ r ≡ answered s number ⌝ }
+{
+    Outcome {
+        state: s,
+        answer: number,
+        winner: 0,
+        lines: 0,
+        stages: 0,
+    }
 }
 
 // An event by its letter: Q, A or R. Any other letter is refused with 18.

@@ -26,8 +26,10 @@ const HOLDER: usize = HELD + 1;
 
 const VALUE: usize = HOLDER + 1;
 
+const WAITERS: usize = VALUE + 2;
+
 // Where the state ends, and what comes after it begins.
-pub(crate) const AFTER: usize = VALUE + 2;
+pub(crate) const AFTER: usize = WAITERS + 1;
 
 // The state, a letter and a number.
 pub(crate) const RECORD: usize = AFTER + 2;
@@ -37,7 +39,7 @@ const ANSWER: usize = AFTER + 5;
 
 // The 64 bytes of a record from at on.
 fn numbers_at(bytes: &[u8; RECORD], at: usize) -> [u8; 64]
-    requires { ⌜ at + 64 ≤ 327 ⌝ }
+    requires { ⌜ at + 64 ≤ 328 ⌝ }
 {
     let mut numbers = [0u8; 64];
     for a in 0..64usize {
@@ -48,7 +50,7 @@ fn numbers_at(bytes: &[u8; RECORD], at: usize) -> [u8; 64]
 
 // The same as marks: 0 for no, anything else for yes.
 fn marks_at(bytes: &[u8; RECORD], at: usize) -> [bool; 64]
-    requires { ⌜ at + 64 ≤ 327 ⌝ }
+    requires { ⌜ at + 64 ≤ 328 ⌝ }
 {
     let mut marks = [false; 64];
     for a in 0..64usize {
@@ -91,12 +93,13 @@ pub(crate) fn state_from(bytes: &[u8; RECORD]) -> RackState {
         last: bytes[LAST],
         bus,
         value: word(bytes[VALUE], bytes[VALUE + 1]),
+        waiters: bytes[WAITERS],
     }
 }
 
 // Puts 64 numbers into an answer from at on.
 fn put_numbers(out: &mut [u8; ANSWER], at: usize, numbers: [u8; 64])
-    requires { ⌜ at + 64 ≤ 327 ⌝ }
+    requires { ⌜ at + 64 ≤ 328 ⌝ }
 {
     for a in 0..64usize {
         out[at + a] = numbers[a];
@@ -105,7 +108,7 @@ fn put_numbers(out: &mut [u8; ANSWER], at: usize, numbers: [u8; 64])
 
 // The same for marks: 1 for yes, 0 for no.
 fn put_marks(out: &mut [u8; ANSWER], at: usize, marks: [bool; 64])
-    requires { ⌜ at + 64 ≤ 327 ⌝ }
+    requires { ⌜ at + 64 ≤ 328 ⌝ }
 {
     for a in 0..64usize {
         out[at + a] = marks[a] as u8;
@@ -150,6 +153,7 @@ pub(crate) fn bytes_of(s: RackState) -> [u8; ANSWER] {
     out[HOLDER] = holder_of(bus);
     out[VALUE] = low_byte(s.value as usize);
     out[VALUE + 1] = high_byte(s.value as usize);
+    out[WAITERS] = s.waiters;
     out
 }
 

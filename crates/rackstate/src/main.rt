@@ -1,6 +1,6 @@
-// Takes states of a rack as bytes, each with an event or a save, and writes what the rack makes of each.
+// Takes states of a rack as bytes, each with an event, a save or a question, and writes what the rack makes of each.
 //
-// A record in has 329 bytes. Its first 327 are a state:
+// A record in has 330 bytes. Its first 328 are a state:
 //   0    number width k
 //   1    rule
 //   2    the slot of each number, 64 bytes
@@ -12,21 +12,26 @@
 //   323  whether the bus is held: 0 for no, anything else for yes
 //   324  the holder
 //   325  the kept value of the lines, low byte first, 2 bytes
+//   327  the stored number of waiting cards
 // Then what to do with it:
-//   327  the letter: Q, A or R for an event, S for a save; any other letter is an event too, and is refused with 18
-//   328  the number of the event, or how many bytes are lent to the save; each of them holds EE before (in hex)
+//   328  the letter: Q, A or R for an event, S for a save, N for how many cards wait; any other letter is an event too, and is refused with 18
+//   329  the number of the event, or how many bytes are lent to the save; each of them holds EE before (in hex)
 //
-// A record out has 332 bytes, and after a save those that were lent. Its first 327 are the state that the event returns, or the state that was
-// saved, laid out as above: yes is 1, and the holder of a free bus is 0. Then, for an event:
-//   327  answer
-//   328  winner
-//   329  settled lines, low byte first, 2 bytes
-//   331  stages
-// and for a save:
-//   327  answer
-//   328  length, low byte first, 2 bytes
-//   330  zeros, 2 bytes
-//   332  the bytes that were lent, as the save left them
+// A record out has 333 bytes, and after a save those that were lent. Its first 328 are the state that the event returns, or the state that was
+// saved or asked, laid out as above: yes is 1, and the holder of a free bus is 0. Then, for an event:
+//   328  answer
+//   329  winner
+//   330  settled lines, low byte first, 2 bytes
+//   332  stages
+// for a save:
+//   328  answer
+//   329  length, low byte first, 2 bytes
+//   331  zeros, 2 bytes
+//   333  the bytes that were lent, as the save left them
+// and for how many cards wait:
+//   328  answer
+//   329  how many
+//   330  zeros, 3 bytes
 //
 // Each record is answered before the next is read. The program ends where the input ends or a record is short.
 use arbiter::RackState;
@@ -64,6 +69,15 @@ fn answer_save(state: RackState, lent: &mut [u8]) -> bool {
     io::write_all(STDOUT_FILENO, &out) && io::write_all(STDOUT_FILENO, lent)
 }
 
+// Writes how many cards of the state wait; whether it could be written.
+fn answer_count(state: RackState) -> bool {
+    let waiting = rack::waiting_count(state);
+    let mut out = bytes_of(state);
+    out[AFTER] = waiting.answer;
+    out[AFTER + 1] = waiting.count;
+    io::write_all(STDOUT_FILENO, &out)
+}
+
 // Lends so many bytes to a save, each of which holds EE.
 fn lend_to_save(state: RackState, number: u8) -> bool {
     let mut buffer = [0xEEu8; 255];
@@ -76,10 +90,11 @@ fn answer(bytes: &[u8; RECORD]) -> bool {
     let state = state_from(bytes);
     let letter = bytes[AFTER];
     let number = bytes[AFTER + 1];
-    if letter == b'S' {
-        return lend_to_save(state, number);
+    match letter {
+        b'S' => lend_to_save(state, number),
+        b'N' => answer_count(state),
+        _ => answer_event(state, letter, number),
     }
-    answer_event(state, letter, number)
 }
 
 // A proved loop has to end, and nothing says that the input does: the loop counts its turns down from a number that no run uses up.

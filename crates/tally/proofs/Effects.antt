@@ -11,7 +11,7 @@ use lib.Seq.{getD-set-same, getD-set-other}
 use borrow.Author.Tests.{eqb-true, eqb-false, eq-eqb, lt-ltb}
 use Rattle.cards.proofs.TableKnown.{table-range}
 use Rattle.lines.specs.declared.Settled.{Settled}
-use Rattle.arbiter.proofs.Formed.{Formed, formed-of}
+use Rattle.arbiter.proofs.Formed.{Formed, formed-of, some-wait}
 use Rattle.arbiter.proofs.Numbers.{competitor-waits, settles}
 use Rattle.arbiter.proofs.Refusals.{may-request, may-release, MayArbitrate, may-arbitrate}
 use Rattle.arbiter.proofs.Winner.{Won, won}
@@ -126,7 +126,7 @@ module _ (s : RackState) (h : arbitrateOf s .answer ≡ 0) where
       ahead ∙ by-settling ∙ not-full (someLoserFull s (winnerOf s)) s (winnerOf s) (settlingOf s) (sym (ap (λ (o : Outcome). o .answer) (ahead ∙ by-settling)) ∙ h)
 
   pub granted-known : Granted s (arbitrateOf s)
-  granted-known = rw to-winner (record { state-left = refl; answer-done = refl; winner-won = won s (wins .told) (wins .some) })
+  granted-known = rw to-winner (record { state-left = refl; answer-done = refl; winner-won = won s (wins .told) (some-wait s (formed-of s (wins .told)) (wins .some)) })
 
   pub granted-waited : waits s (arbitrateOf s .winner) ≡ true
   granted-waited = competitor-waits s _ (granted-known .winner-won .competing)

@@ -6,7 +6,6 @@ use mathlib.Core.Logic.{_≢_}
 use mathlib.Core.Path.{_≡_, refl, sym, _∙_}
 use lib.Dec.{eqb, leb}
 use borrow.Author.Tests.{eqb-true, ne-eqb}
-use Rattle.cards.specs.Below.{anyBelow}
 use Rattle.cards.specs.Table.{inTable}
 use Rattle.arbiter.specs.Arbitrate.{settlingOf, winnerOf, someLoserFull, grantTo, wonBy, arbitrated, arbitrateRefusal, arbitrateOf, eventOf}
 use Rattle.arbiter.specs.Events.{answered, answeredBy, requested, requestRefusal, requestOf, released, releaseRefusal, releaseOf}
@@ -48,7 +47,7 @@ low-event s letter a =
     either (eqb letter 81) (requestOf s a) _
     (low-answered (requestRefusal (wellFormed s) s a) s _ (chain (not (wellFormed s)) (not (inTable (s .table .slots) a)) (waits s a) 11 12 (omega arith) (omega arith)) (omega arith))
     (either (eqb letter 65) (arbitrateOf s) _
-    (low-answered (arbitrateRefusal (wellFormed s) s) s (arbitrated s) (chain (not (wellFormed s)) (isClosed (s .bus)) (not (anyBelow 64 (waits s))) 13 14 (omega arith) (omega arith)) (low-arbitrated s))
+    (low-answered (arbitrateRefusal (wellFormed s) s) s (arbitrated s) (chain (not (wellFormed s)) (isClosed (s .bus)) (eqb (s .waiters) 0) 13 14 (omega arith) (omega arith)) (low-arbitrated s))
     (either (eqb letter 82) (releaseOf s a) (answered s 18)
     (low-answered (releaseRefusal (wellFormed s) s a) s _ (chain (not (wellFormed s)) (not (inTable (s .table .slots) a)) (not (isHolder (s .bus) a)) 11 15 (omega arith) (omega arith)) (omega arith))
     (omega arith)))

@@ -1,11 +1,8 @@
 // What a counted event answers.
 ghost use mathlib.Core.Path.{_≡_};
-ghost use Rattle.arbiter.specs.Events.{answered};
 ghost use Rattle.tally.specs.Tally.{countedAnswer};
 use super::Tally;
 use super::tally_good;
-use arbiter::Outcome;
-use arbiter::RackState;
 
 // The answer to an event that the rack answers with n: 31 and 41 come straight after 17.
 pub(crate) fn counted_answer(t: Tally, q: [[u16; 64]; 64], n: u8) -> u8
@@ -21,17 +18,4 @@ pub(crate) fn counted_answer(t: Tally, q: [[u16; 64]; 64], n: u8) -> u8
         return 41;
     }
     n
-}
-
-// A refusal with the state given.
-pub(crate) fn refused(s: RackState, number: u8) -> Outcome
-    ensures { λ r. ⌜ r ≡ answered s number ⌝ }
-{
-    Outcome {
-        state: s,
-        answer: number,
-        winner: 0,
-        lines: 0,
-        stages: 0,
-    }
 }

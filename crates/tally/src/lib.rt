@@ -3,7 +3,6 @@ ghost use mathlib.Core.Path.{_≡_};
 ghost use Rattle.tally.specs.Room.{squareFor};
 ghost use Rattle.tally.specs.Tally.{tallyGood, countedOf, talliedOf};
 use answers::counted_answer;
-use answers::refused;
 use arbiter::Outcome;
 use arbiter::RackState;
 use checks::cards_good;
@@ -57,7 +56,7 @@ pub fn event_counted(t: Tally, q: [[u16; 64]; 64], s: RackState, letter: u8, a: 
     let o = rack::event(s, letter, a);
     let n = counted_answer(t, q, o.answer);
     if n != 0 {
-        let outcome = refused(s, n);
+        let outcome = rack::refused(s, n);
         return Counted { tally: t, outcome };
     }
     let tally = tally_after(t, letter, a, o);

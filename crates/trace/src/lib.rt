@@ -94,8 +94,6 @@ pub fn run(s: RackState, input: &[u8], output: &mut [u8]) -> Ran
     let lines = least(input.len() / 5, output.len() / 19);
     let formed = rack::well_formed(s);
     let table = s.table;
-    let k = table.k;
-    let rule = table.rule;
     let slots = table.slots;
     let mut waiting = s.waiting;
     let mut counts = s.counts;
@@ -106,13 +104,14 @@ pub fn run(s: RackState, input: &[u8], output: &mut [u8]) -> Ran
         last: s.last,
         bus,
         value: s.value,
+        waiters: s.waiters,
     };
     for n in 0..lines {
         let line = line_at(input, n);
         let r = answer_line(
             formed,
-            k,
-            rule,
+            table.k,
+            table.rule,
             &slots,
             &mut waiting,
             &mut counts,

@@ -1,12 +1,14 @@
 -- `arbiter::arbitrate_in` meets its contract: by the refusal, whose chain is the definition's. Assumes nothing.
-use Prim.Native.Nat.{ℕ, _≤_}
-use mathlib.Core.Bool.{not, _&&_}
+use Prim.Native.Nat.{ℕ, _≤_, _<_}
+use native.Mathlib.Omega.{arith}
+use mathlib.Core.Bool.{_&&_}
 use mathlib.Core.List.{List, []}
-use mathlib.Core.Path.{_≡_, sym, ap, _∙_}
-use lib.Dec.{leb}
+use mathlib.Core.Path.{_≡_, refl, sym, _∙_}
+use lib.Dec.{leb, eqb}
 use borrow.Author.Needs.{needs}
+use borrow.Author.Tests.{eqb-false}
 use Rattle.arbiter.proofs.Leaving.{leaves-refused, leaves-done}
-use Rattle.arbiter.proofs.Refusals.{worked-out, may-width}
+use Rattle.arbiter.proofs.Refusals.{worked-out, may-width, may-arbitrate}
 use Rattle.arbiter.proofs.arbitrate_in.Statement.{statement}
 use Rattle.arbiter.proofs.arbitrate_in.Tie as tie
 use Rattle.arbiter.specs.Arbitrate.{arbitrated, arbitrateRefusal}
@@ -18,9 +20,6 @@ use Rattle.contest.specs.Marks.{marks}
 is-closed-requires : tie.Need-is-closed-requires
 is-closed-requires c κs = search needs
 
-some-marked-requires : tie.Need-some-marked-requires
-some-marked-requires c κs = search needs
-
 refusal-by-requires : tie.Need-refusal-by-requires
 refusal-by-requires c κs = search needs
 
@@ -30,7 +29,7 @@ quiet-requires c κs = search needs
 -- the chain is the definition's, whatever the slots are
 module _ (c : tie.After-refusal-by) (slots : List ℕ) where
   abbrev given : tie.Start
-  given = c .before .before .before .before
+  given = c .before .before .before
 
   abbrev table : Table
   table = tableOf (given .args .k) (given .args .rule) slots
@@ -43,13 +42,17 @@ module _ (c : tie.After-refusal-by) (slots : List ℕ) where
   told : c .refusal-by .result ≡ arbitrateRefusal (given .args .formed && leb (given .args .k) 6) state
   unfolding arbitrateRefusal
   told =
-      let closed = c .before .before .before .is-closed in
-      let some = c .before .some-marked in
-      worked-out (given .args .formed && leb (given .args .k) 6) (closed .result) (not (some .result)) 13 14 (c .refusal-by .ensures)
-      (closed .ensures) (ap not (some .ensures))
+      let closed = c .before .before .is-closed in
+      worked-out (given .args .formed && leb (given .args .k) 6) (closed .result) (eqb (given .args .hold .waiters) 0) 13 14 (c .refusal-by .ensures)
+      (closed .ensures) refl
 
   width : c .refusal-by .result ≡ 0 → given .args .k ≤ 6
   width none = may-width (given .args .formed) state (sym told ∙ none)
+
+  some : c .refusal-by .result ≡ 0 → 0 < given .args .hold .waiters
+  some none =
+      let stored = may-arbitrate (given .args .formed && leb (given .args .k) 6) state (sym told ∙ none) .some in
+      omega (arith, eqb-false (given .args .hold .waiters) 0 stored)
 
 returns : tie.Need-returns
 returns c =
@@ -61,7 +64,9 @@ returns c =
     }
 
 arbitrated-in-requires : tie.Need-arbitrated-in-requires
-arbitrated-in-requires c κs = width (c .before .before .before .before .before) [] (c .before .before .before .before .if1 .left)
+arbitrated-in-requires c κs =
+    let idle = c .before .before .before .before in
+    (width (idle .before) [] (idle .if1 .left), some (idle .before) [] (idle .if1 .left))
 
 returns-2 : tie.Need-returns-2
 returns-2 c =
@@ -77,7 +82,6 @@ arbitrate-in-spec =
     tie.close
     (tie.spec
     is-closed-requires
-    some-marked-requires
     refusal-by-requires
     quiet-requires
     returns

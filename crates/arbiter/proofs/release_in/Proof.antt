@@ -74,7 +74,7 @@ returns-2 c =
           let after = marks waiting counts batch (inhibitedBy (given .rule) (given .inhibited .now) (given .a)) in
           rw (c .quiet2 .ensures, c .before .inhibit .ensures)
           (leaves-done _ (state chain k waiting counts batch) _ (sym (told chain k waiting counts batch) ∙ c .before .before .before .if1 .left)
-          (leaves-answered (table chain k waiting counts batch) after (record { last = given .hold .last; bus = Free; value = given .hold .value }) 0));
+          (leaves-answered (table chain k waiting counts batch) after (record { last = given .hold .last; bus = Free; value = given .hold .value; waiters = given .hold .waiters }) 0));
     }
 
 pub release-in-spec : {M : Type 1} → statement M

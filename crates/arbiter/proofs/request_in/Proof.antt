@@ -9,8 +9,9 @@ use Rattle.arbiter.proofs.Leaving.{leaves-answered, leaves-refused, lea
 use Rattle.arbiter.proofs.Refusals.{may-request, worked-out, asks-in-range}
 use Rattle.arbiter.proofs.request_in.Statement.{statement}
 use Rattle.arbiter.proofs.request_in.Tie as tie
-use Rattle.arbiter.specs.Events.{requestRefusal}
+use Rattle.arbiter.specs.Events.{oneWaits, requestRefusal}
 use Rattle.arbiter.specs.Lent.{stateOf, tableOf}
+use Rattle.arbiter.specs.declared.Hold.{Hold}
 use Rattle.arbiter.specs.declared.RackState.{RackState}
 use Rattle.cards.proofs.TableKnown.{table-range}
 use Rattle.cards.specs.declared.Table.{Table}
@@ -68,16 +69,20 @@ element-write-counts c = let inside = below (c .before) 0 0 [] [] (c .if1 .left)
 quiet-requires-2 : tie.Need-quiet-requires-2
 quiet-requires-2 c κs = search needs
 
+-- one card more waits
+abbrev one-more : Hold → Hold
+one-more hold = record { last = hold .last; bus = hold .bus; value = hold .value; waiters = oneWaits (hold .waiters) }
+
 returns-2 : tie.Need-returns-2
 returns-2 c =
-    let chain = c .before .before in
+    let chain = c .before .before .before in
     let given = given chain 0 0 [] [] .args in
     record {
       left = λ k rule batch inhibited.
           let after = marks (set (given .waiting .now) (given .a) true) (set (given .counts .now) (given .a) 0) batch inhibited in
-          rw (c .quiet2 .ensures)
-          (leaves-done _ (state chain k rule batch inhibited) _ (sym (told chain k rule batch inhibited) ∙ c .before .if1 .left)
-          (leaves-answered (table chain k rule batch inhibited) after (given .hold) 0));
+          rw (c .quiet2 .ensures, c .before .one-waits .ensures)
+          (leaves-done _ (state chain k rule batch inhibited) _ (sym (told chain k rule batch inhibited) ∙ c .before .before .if1 .left)
+          (leaves-answered (table chain k rule batch inhibited) after (one-more (given .hold)) 0));
     }
 
 pub request-in-spec : {M : Type 1} → statement M
@@ -91,5 +96,6 @@ request-in-spec =
     returns
     element-write-waiting
     element-write-counts
+    (λ c κs. search needs)
     quiet-requires-2
     returns-2)

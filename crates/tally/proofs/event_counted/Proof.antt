@@ -6,7 +6,7 @@ use borrow.Author.Needs.{needs}
 use Rattle.tally.proofs.event_counted.Statement.{statement}
 use Rattle.tally.proofs.event_counted.Tie as tie
 use Rattle.rack.proofs.event.Reads as event-reads
-use Rattle.tally.proofs.answers.refused.Reads as refused-reads
+use Rattle.rack.proofs.refused.Reads as refused-reads
 use Rattle.tally.proofs.answers.counted_answer.Reads as counted-answer-reads
 use Rattle.tally.proofs.counting.tally_after.Reads as tally-after-reads
 

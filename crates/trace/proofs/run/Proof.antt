@@ -17,14 +17,14 @@ use Rattle.trace.specs.Line.{isMalformed}
 use Rattle.trace.specs.Listing.{linesWithin}
 
 abbrev Inv-loop : tie.InvT-loop
-Inv-loop input output₀ lines formed table k rule slots waiting₀ counts₀ batch₀ inhibited₀ hold₀ n₀ output waiting counts batch inhibited hold n =
+Inv-loop input output₀ lines formed table slots waiting₀ counts₀ batch₀ inhibited₀ hold₀ n₀ output waiting counts batch inhibited hold n =
     (n ≤ lines) × (5 * lines ≤ length input) × (19 * lines ≤ length output₀) × (length output ≡ length output₀)
     × Going (stateOf table (marks waiting₀ counts₀ batch₀ inhibited₀) hold₀) input output₀ n
     (stateOf table (marks waiting counts batch inhibited) hold) output
     × (formed ≡ wellFormed (stateOf table (marks waiting counts batch inhibited) hold))
 
 abbrev μ-loop : tie.MeasureT-loop
-μ-loop input output₀ lines formed table k rule slots waiting₀ counts₀ batch₀ inhibited₀ hold₀ n₀ output waiting counts batch inhibited hold n = lines - n
+μ-loop input output₀ lines formed table slots waiting₀ counts₀ batch₀ inhibited₀ hold₀ n₀ output waiting counts batch inhibited hold n = lines - n
 
 loop-holds : tie.Need-loop-holds Inv-loop μ-loop
 loop-holds c =

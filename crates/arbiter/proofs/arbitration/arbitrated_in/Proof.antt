@@ -40,7 +40,7 @@ module _ (c : tie.After-settling-of) (slots : List ℕ) where
   anew = ap not (told .some-first .ensures)
 
   settled : c .settling-of .result ≡ settlingOf state
-  settled = c .settling-of .ensures ∙ shown-settles state _ anew (given .pre)
+  settled = c .settling-of .ensures ∙ shown-settles state _ anew (given .pre .0)
 
   value : c .settling-of .result .lines ≡ valueNow state
   unfolding valueNow
@@ -64,7 +64,7 @@ returns-2 c slots =
     let spanned = c .before .before .before .before .before .before in
     let before = spanned .before .before .before in
     leaves-settled (table before slots) (lent before slots) _ (before .settling-of .result) (settled before slots) (spanned .before .if1 .left)
-    (rw (spanned .span .ensures .0 ∙ span-of _ (given before slots .pre))
+    (rw (spanned .span .ensures .0 ∙ span-of _ (given before slots .pre .0))
     at (c .granted-in .ensures slots (state before slots) refl (anew before slots) (value before slots)))
 
 pub arbitrated-in-spec : {M : Type 1} → statement M

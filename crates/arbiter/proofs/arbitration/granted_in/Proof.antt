@@ -48,14 +48,15 @@ module _ (c : tie.After-clear-inhibitions) where
 one-more-each-requires : tie.Need-one-more-each-requires
 one-more-each-requires c κs =
     let branch = c .before .before in
-    let given = given (tested (branch .before)) [] in
-    loser-room (state (tested (branch .before)) []) (given .args .w) (room (branch .before) []) (given .pre .1) (branch .if2 .taken)
+    let sets = branch .before .before in
+    let given = given (tested sets) [] in
+    loser-room (state (tested sets) []) (given .args .w) (room sets []) (given .pre .1 .0) (branch .if2 .taken)
 
 returns-2 : tie.Need-returns-2
 unfolding wonBy granted losersCounted batchNow inhibitedNow
 returns-2 c slots s is anew value =
     let branch = c .before .before .before in
-    let sets = branch .before in
+    let sets = branch .before .before in
     rw (
       is,
       c .one-more-each .ensures,
@@ -71,7 +72,7 @@ returns-2 c slots s is anew value =
 returns-3 : tie.Need-returns-3
 unfolding wonBy granted losersCounted batchNow inhibitedNow
 returns-3 c slots s is anew value =
-    let sets = c .before in
+    let sets = c .before .before in
     rw (
       is,
       sets .clear-inhibitions .ensures,
@@ -92,6 +93,7 @@ granted-in-spec =
     returns
     (λ c κs. search needs)
     (λ c κs. search needs)
+    (λ c. search needs)
     (λ c. search needs)
     (λ c. search needs)
     (λ c. search needs)
