@@ -1,5 +1,5 @@
 -- The demands proved: fairness (Sums to Fairness), states, waiting counts (OthersLeft, Counts), the round trip of a table, the most stages, the waiting
--- report, and that every contract admits one result.
+-- report.
 pub mod Sums
 pub mod Turns
 pub mod Potentials
@@ -12,4 +12,3 @@ pub mod RoundTrip
 pub mod Settling
 pub mod Slowest
 pub mod WaitingReport
-pub mod Determined

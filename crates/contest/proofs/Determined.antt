@@ -1,0 +1,17 @@
+-- Each public contract of this crate admits one result. Assumes nothing.
+use mathlib.Core.Path.{refl}
+use Rattle.one_result.proofs.Laws.{one-result}
+use Rattle.one_result.specs.Determined.{Determined}
+use Rattle.contest.proofs as contest
+
+pub span-determined : Determined contest.span.ended contest.span.Reads.Learnt
+span-determined κ a x y b c p q = (one-result (p .0) (q .0), refl)
+
+pub lines-of-determined : Determined contest.lines_of.ended contest.lines_of.Reads.Learnt
+lines-of-determined κ a x y b c p q = (one-result p q, refl)
+
+pub some-first-determined : Determined contest.some_first.ended contest.some_first.Reads.Learnt
+some-first-determined κ a x y b c p q = (one-result p q, refl)
+
+pub settling-of-determined : Determined contest.settling_of.ended contest.settling_of.Reads.Learnt
+settling-of-determined κ a x y b c p q = (one-result p q, refl)
