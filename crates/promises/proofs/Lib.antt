@@ -3,7 +3,10 @@
 pub mod Sums
 pub mod Turns
 pub mod Potentials
+pub mod Batches
 pub mod Share
+pub mod Limits
+pub mod Topped
 pub mod Fairness
 pub mod States
 pub mod OthersLeft
