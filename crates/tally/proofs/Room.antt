@@ -5,21 +5,15 @@ use mathlib.Core.Bool.{Bool, true, false, _&&_, false≢true}
 use mathlib.Core.Path.{_≡_, refl}
 use lib.Dec.{eqb, ltb}
 use borrow.Author.Tests.{eqb-true}
-use Rattle.arbiter.proofs.Seen.{Seen, quiet, grant, seen}
 use Rattle.arbiter.proofs.Tests.{and-right}
+use Rattle.arbiter.proofs.Told.{winner-below}
 use Rattle.arbiter.specs.Arbitrate.{eventOf}
 use Rattle.arbiter.specs.Events.{answered}
-use Rattle.arbiter.specs.declared.Outcome.{Outcome}
 use Rattle.arbiter.specs.declared.RackState.{RackState}
 use Rattle.tally.proofs.Laws.{cond-same, rows-of, rows-room, counted-on, counts}
 use Rattle.tally.specs.Room.{SquareRoom, countedOn, squareFor}
 use Rattle.tally.specs.Tally.{Square, countedAnswer, countedBy, countedOf, squareAfter}
 use Rattle.tally.specs.declared.Tally.{Tally}
-
--- a winner is a number of the square
-winner-below : (s : RackState) (o : Outcome) → Seen s o → o .winner < 64
-winner-below s o (quiet none no-grant) = omega (arith, none)
-winner-below s o (grant done free room left known) = known .below
 
 pub counted-room : (t : Tally) (q : Square) (s : RackState) (letter a : ℕ) → SquareRoom q (countedOf t q s letter a .outcome)
 unfolding countedOf countedBy
@@ -29,7 +23,7 @@ counted-room t q s letter a = by-case (eqb n 0) refl
     n = countedAnswer t q (eventOf s letter a .answer)
 
     below : eventOf s letter a .winner < 64
-    below = winner-below s (eventOf s letter a) (seen s letter a)
+    below = winner-below s letter a
 
     none-won : (eqb n 0 && ltb 0 0) ≡ true → false ≡ true
     none-won g = and-right (eqb n 0) _ g
@@ -50,7 +44,7 @@ square-for t q s letter a = by-case (eqb n 0) refl
     n = countedAnswer t q (eventOf s letter a .answer)
 
     below : eventOf s letter a .winner < 64
-    below = winner-below s (eventOf s letter a) (seen s letter a)
+    below = winner-below s letter a
 
     by-case : (v : Bool) → eqb n 0 ≡ v
         → squareFor (t .events) q (countedBy n t s letter a (eventOf s letter a) .outcome)
