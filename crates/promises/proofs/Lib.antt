@@ -1,5 +1,5 @@
--- The demands proved: fairness (Sums to Fairness), states, waiting counts (OthersLeft, Counts), the round trip of a table, the most stages, the waiting
--- report.
+-- The demands proved: fairness (Sums to Fairness) and the same of a listing, states, waiting counts (OthersLeft, Counts), the round trip of a table, the
+-- most stages, and the waiting report.
 pub mod Sums
 pub mod Turns
 pub mod Potentials
@@ -8,6 +8,7 @@ pub mod Share
 pub mod Limits
 pub mod Topped
 pub mod Fairness
+pub mod Listing
 pub mod States
 pub mod OthersLeft
 pub mod Counts
