@@ -9,6 +9,7 @@ use Rattle.arbiter.specs.declared.Bus.the-variants.{Free}
 use Rattle.arbiter.specs.declared.Outcome.{Outcome}
 use Rattle.arbiter.specs.declared.RackState.{RackState}
 use Rattle.cards.specs.Table.{inTable}
+use Rattle.contest.specs.Rules.{inhibits}
 
 -- an answer with winner, lines and stages 0
 abbrev pub answered : RackState → ℕ → Outcome
@@ -43,7 +44,7 @@ unfoldable pub releaseRefusal : Bool → RackState → ℕ → ℕ
 releaseRefusal formed s a = cond (not formed) 17 (cond (not (inTable (s .table .slots) a)) 11 (cond (not (isHolder (s .bus) a)) 15 0))
 
 abbrev pub inhibitedBy : ℕ → List Bool → ℕ → List Bool
-inhibitedBy rule inhibited a = cond (eqb rule 4) (set inhibited a true) inhibited
+inhibitedBy rule inhibited a = cond (inhibits rule) (set inhibited a true) inhibited
 
 abbrev pub released : RackState → ℕ → RackState
 released s a = withSets (withBus s (s .last) Free) (s .batch) (inhibitedBy (s .table .rule) (s .inhibited) a)

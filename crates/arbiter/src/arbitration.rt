@@ -16,6 +16,7 @@ use super::Reply;
 use super::answers::quiet;
 use super::sets::clear_inhibitions;
 use super::sets::renew_batch;
+use contest::counts_losers;
 use contest::settling_of;
 use contest::some_first;
 use contest::span;
@@ -45,7 +46,7 @@ pub(crate) fn some_loser_full(
     ensures { λ r. ⌜ ((slots : List ℕ) (batch inhibited : List Bool) (hold : Hold)
         → r ≡ someLoserFull (stateOf (tableOf k rule slots) (marks (now (waiting .entry)) (now (counts .entry)) batch inhibited) hold) w) ⌝ }
 {
-    if rule == 2 {
+    if counts_losers(rule) {
         let full = (span(k) - 1) as u8;
         return some_full_loser(full, waiting, counts, w);
     }
@@ -105,7 +106,7 @@ pub(crate) fn granted_in(
     waiting[i] = false;
     counts[i] = 0;
     batch[i] = false;
-    if rule == 2 {
+    if counts_losers(rule) {
         let grown = one_more_each(waiting, counts);
         *counts = grown;
     }

@@ -2,19 +2,16 @@
 use Prim.Native.Nat.{ℕ, zero, suc, _+_, _-_, _*_, _^_, _≤_, _<_}
 use native.Mathlib.Nat.{mul-le-mul}
 use native.Mathlib.Omega.{arith}
-use mathlib.Core.Bool.{Bool, true, false, cond, not, _&&_, _||_, and-true, true≢false}
+use mathlib.Core.Bool.{Bool, true, false, cond}
 use mathlib.Core.List.{List}
 use mathlib.Core.Logic.{_⊎_, inl, inr}
-use mathlib.Core.Path.{_≡_, refl, sym, _∙_}
-use lib.Dec.{leb, eqb}
+use mathlib.Core.Path.{_≡_, refl, sym}
+use lib.Dec.{leb}
 use lib.Pow.{pow-pos, pow-mono}
-use borrow.Author.Tests.{le-leb, lt-leb, ne-eqb}
-use Rattle.cards.proofs.Below.{any-alike, le-or-lt}
-use Rattle.cards.specs.Below.{anyBelow}
+use borrow.Author.Tests.{le-leb, lt-leb}
+use Rattle.cards.proofs.Below.{le-or-lt}
 use Rattle.cards.specs.Table.{topNumber}
-use Rattle.contest.specs.Marks.{isIn}
-use Rattle.contest.specs.Rules.{byRule, linesBy, linesGiven, spanOf, numberBy, goesFirst}
-use Rattle.contest.specs.Shown.{firstAt}
+use Rattle.contest.specs.Rules.{byRule, linesBy, linesGiven, spanOf, numberBy}
 use Rattle.lines.specs.Settle.{refusal, settledOr}
 
 -- a number that is none of the rules'
@@ -34,33 +31,6 @@ pub nothing-shown : (b : Bool) (k rule last count a : ℕ) → (rule ≡ 0 → �
 unfolding numberBy
 nothing-shown true k rule last count a p q r u v = sym (other-rule {A = ℕ} rule _ _ _ _ _ 0 p q r u v)
 nothing-shown false k rule last count a p q r u v = refl
-
--- who goes first, from the two tests of the rule
-pub first-by-tests : (rule : ℕ) (batched inhibited : Bool)
-    → ((not (eqb rule 3) || batched) && (not (eqb rule 4) || not inhibited)) ≡ goesFirst rule batched inhibited
-unfolding goesFirst byRule
-first-by-tests zero batched inhibited = refl
-first-by-tests (suc zero) batched inhibited = refl
-first-by-tests (suc (suc zero)) batched inhibited = refl
-first-by-tests (suc (suc (suc zero))) batched inhibited = and-true batched
-first-by-tests (suc (suc (suc (suc zero)))) batched inhibited = refl
-first-by-tests (suc (suc (suc (suc (suc rule))))) batched inhibited =
-    rw (ne-eqb (suc (suc (suc (suc (suc rule))))) 3 (λ e. omega arith), ne-eqb (suc (suc (suc (suc (suc rule))))) 4 (λ e. omega arith))
-
--- no rule but 3 and 4 lets a card go before another
-pub all-go-first : (rule : ℕ) (batched inhibited : Bool) → (eqb rule 3 || eqb rule 4) ≡ false → true ≡ goesFirst rule batched inhibited
-all-go-first rule batched inhibited neither = go (eqb rule 3) (eqb rule 4) neither ∙ first-by-tests rule batched inhibited
-  where
-    go : (t u : Bool) → (t || u) ≡ false → true ≡ ((not t || batched) && (not u || not inhibited))
-    go false false e = refl
-    go false true e = absurd (true≢false e)
-    go true u e = absurd (true≢false e)
-
-pub some-go-first : (rule : ℕ) (waiting batch inhibited : List Bool) → (eqb rule 3 || eqb rule 4) ≡ false
-    → anyBelow 64 (isIn waiting) ≡ anyBelow 64 (firstAt rule waiting batch inhibited)
-some-go-first rule waiting batch inhibited neither =
-    any-alike 64 (isIn waiting) (firstAt rule waiting batch inhibited)
-    (λ a _. sym (and-true (isIn waiting a)) ∙ rw (all-go-first rule (isIn batch a) (isIn inhibited a) neither))
 
 -- a product of a span and a count
 pub product-small : (x y : ℕ) → x ≤ 64 → y < 256 → x * y ≤ 16320

@@ -1,7 +1,7 @@
 -- What the five rules make of a card, as documents 01 and 02 have them: the lines, the competing number, and who goes first. Assumes nothing.
 use Prim.Native.Nat.{ℕ, zero, suc, _+_, _*_, _^_}
 use mathlib.Core.Bool.{Bool, true, cond, not}
-use lib.Dec.{ltb, leb}
+use lib.Dec.{ltb, leb, eqb}
 
 -- One of five by the rule's number: 0 fixed, 1 round-robin, 2 arrival, 3 batch, 4 inhibit. The last is for any other number. No well-formed state
 -- has one (`formed-rule` of arbiter/proofs/Formed), so no event of the documents comes to it: it only makes the definition total.
@@ -39,3 +39,13 @@ numberBy k rule last count a =
 -- Under rule 3 the cards of the batch go first, under rule 4 those that are not inhibited; under the others no card goes before another.
 unfoldable pub goesFirst : ℕ → Bool → Bool → Bool
 goesFirst rule batched inhibited = byRule rule true true true batched (not inhibited) true
+
+-- Under rule 2 alone a loser's waiting count grows, under rule 3 alone there is a batch, and under rule 4 alone a card is inhibited when it releases.
+abbrev pub countsLosers : ℕ → Bool
+countsLosers rule = eqb rule 2
+
+abbrev pub hasBatch : ℕ → Bool
+hasBatch rule = eqb rule 3
+
+abbrev pub inhibits : ℕ → Bool
+inhibits rule = eqb rule 4

@@ -3,7 +3,7 @@
 ghost use Prim.Native.Nat.{_≤_};
 ghost use mathlib.Core.Path.{_≡_};
 ghost use Rattle.cards.specs.Below.{anyBelow};
-ghost use Rattle.contest.specs.Marks.{isIn, marks};
+ghost use Rattle.contest.specs.Marks.{marks};
 ghost use Rattle.contest.specs.Rules.{linesGiven, spanOf};
 ghost use Rattle.contest.specs.Shown.{firstAt, shownSettling};
 use lines::Settled;
@@ -11,6 +11,11 @@ use offers::goes_first;
 use offers::numbers_of;
 
 mod offers;
+mod rules;
+
+pub use rules::counts_losers;
+pub use rules::has_batch;
+pub use rules::inhibits;
 
 // Two to the number width; 1 for a width that no table has, so that a caller need not have checked it.
 pub fn span(k: u8) -> u16
@@ -36,18 +41,7 @@ pub fn lines_of(k: u8, rule: u8) -> u8
     }
 }
 
-// Whether some card is marked.
-fn some_marked(cards: &[bool; 64]) -> bool
-    ensures { λ r. ⌜ r ≡ anyBelow 64 (isIn (now (cards .entry))) ⌝ }
-{
-    let mut some = false;
-    for a in 0..64usize {
-        some = some | cards[a];
-    }
-    some
-}
-
-// Whether some card waits that goes first. Under the rules that have no set all go first, and the caller has just asked whether some card waits.
+// Whether some card waits that goes first. The rule is asked at each card: the loop then has a body for each rule.
 pub fn some_first(
     rule: u8,
     waiting: &[bool; 64],
@@ -56,14 +50,9 @@ pub fn some_first(
 ) -> bool
     ensures { λ r. ⌜ r ≡ anyBelow 64 (firstAt rule (now (waiting .entry)) (now (batch .entry)) (now (inhibited .entry))) ⌝ }
 {
-    let batches = rule == 3;
-    let inhibits = rule == 4;
-    if !(batches | inhibits) {
-        return some_marked(waiting);
-    }
     let mut some = false;
     for a in 0..64usize {
-        some = some | (waiting[a] & goes_first(batches, inhibits, batch[a], inhibited[a]));
+        some = some | (waiting[a] & goes_first(rule, batch[a], inhibited[a]));
     }
     some
 }

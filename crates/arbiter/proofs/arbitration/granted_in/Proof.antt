@@ -4,7 +4,7 @@ use mathlib.Core.Bool.{false}
 use mathlib.Core.List.{List, []}
 use mathlib.Core.Path.{_≡_, refl, sym, _∙_}
 use borrow.Author.Needs.{needs}
-use borrow.Author.Tests.{eq-eqb, ne-eqb}
+use borrow.Author.Tests.{eqb-true}
 use Rattle.arbiter.proofs.Laws.{loser-room}
 use Rattle.arbiter.proofs.Leaving.{leaves-answered}
 use Rattle.arbiter.proofs.arbitration.granted_in.Statement.{statement}
@@ -48,22 +48,23 @@ module _ (c : tie.After-clear-inhibitions) where
 one-more-each-requires : tie.Need-one-more-each-requires
 one-more-each-requires c κs =
     let branch = c .before .before in
-    let sets = branch .before .before in
+    let sets = branch .before .before .before in
     let given = given (tested sets) [] in
-    loser-room (state (tested sets) []) (given .args .w) (room sets []) (given .pre .1 .0) (branch .if2 .taken)
+    loser-room (state (tested sets) []) (given .args .w) (room sets []) (given .pre .1 .0)
+    (eqb-true _ _ (sym (branch .before .counts-losers .ensures) ∙ branch .if2 .taken))
 
 returns-2 : tie.Need-returns-2
 unfolding wonBy granted losersCounted batchNow inhibitedNow
 returns-2 c slots s is anew value =
     let branch = c .before .before .before in
-    let sets = branch .before .before in
+    let sets = branch .before .before .before in
     rw (
       is,
       c .one-more-each .ensures,
       sets .clear-inhibitions .ensures,
       renewed sets .renew-batch .ensures,
       room sets slots,
-      eq-eqb _ _ (branch .if2 .taken),
+      sym (branch .before .counts-losers .ensures) ∙ branch .if2 .taken,
       ← (rw is at anew),
       ← (rw is at value),
     )
@@ -72,13 +73,13 @@ returns-2 c slots s is anew value =
 returns-3 : tie.Need-returns-3
 unfolding wonBy granted losersCounted batchNow inhibitedNow
 returns-3 c slots s is anew value =
-    let sets = c .before .before in
+    let sets = c .before .before .before in
     rw (
       is,
       sets .clear-inhibitions .ensures,
       renewed sets .renew-batch .ensures,
       room sets slots,
-      ne-eqb _ _ (c .if2 .left),
+      sym (c .before .counts-losers .ensures) ∙ c .if2 .left,
       ← (rw is at anew),
       ← (rw is at value),
     )
@@ -97,6 +98,7 @@ granted-in-spec =
     (λ c. search needs)
     (λ c. search needs)
     (λ c. search needs)
+    (λ c κs. search needs)
     one-more-each-requires
     returns-2
     returns-3)

@@ -1,7 +1,6 @@
 -- `arbiter::arbitration::some_loser_full` meets its contract: by the rule. Assumes nothing.
 use mathlib.Core.Path.{_∙_}
 use borrow.Author.Needs.{needs}
-use borrow.Author.Tests.{eq-eqb, ne-eqb}
 use Rattle.arbiter.proofs.arbitration.some_loser_full.Statement.{statement}
 use Rattle.arbiter.proofs.arbitration.some_loser_full.Tie as tie
 use Rattle.arbiter.specs.Arbitrate.{someLoserFull}
@@ -22,14 +21,15 @@ some-full-loser-requires c κs = search needs
 returns : tie.Need-returns
 unfolding someLoserFull
 returns c slots batch inhibited hold =
-    let spans = c .before .span .ensures .0 ∙ span-of _ (c .before .before .before .pre) in
-    rw (c .some-full-loser .ensures, spans, eq-eqb _ _ (c .before .before .if1 .taken))
+    let rule = c .before .before in
+    let spans = c .before .span .ensures .0 ∙ span-of _ (rule .before .before .pre) in
+    rw (c .some-full-loser .ensures, spans, ← rule .before .counts-losers .ensures, rule .if1 .taken)
 
 returns-2 : tie.Need-returns-2
 unfolding someLoserFull
-returns-2 c slots batch inhibited hold = rw (ne-eqb _ _ (c .if1 .left))
+returns-2 c slots batch inhibited hold = rw (← c .before .counts-losers .ensures, c .if1 .left)
 
 pub some-loser-full-spec : {M : Type 1} → statement M
 some-loser-full-spec =
     tie.close
-    (tie.spec span-requires sub-full cast-full some-full-loser-requires returns returns-2)
+    (tie.spec (λ c κs. search needs) span-requires sub-full cast-full some-full-loser-requires returns returns-2)
