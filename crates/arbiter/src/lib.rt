@@ -3,11 +3,11 @@
 ghost use mathlib.Core.Path.{_≡_};
 ghost use Rattle.arbiter.specs.Lent.{stateOf, Requests, Releases, Arbitrates};
 ghost use Rattle.contest.specs.Marks.{marks};
-use answers::one_waits;
 use answers::quiet;
 use answers::refusal_by;
 use arbitration::arbitrated_in;
 use cards::Table;
+use contest::one_waits;
 use marks::is_closed;
 use marks::is_holder;
 use marks::waits_at;

@@ -1,4 +1,4 @@
-// The contest for the bus: who goes first, what each card shows the lines by the rule, and how they settle.
+// The contest for the bus: who goes first, what each card shows the lines by the rule, how they settle, and how the sets and the counts change.
 // What is called for each card takes the numbers that it reads, and not the state, which would be copied each time.
 ghost use Prim.Native.Nat.{_≤_};
 ghost use mathlib.Core.Path.{_≡_};
@@ -10,12 +10,20 @@ use lines::Settled;
 use offers::goes_first;
 use offers::numbers_of;
 
+mod counts;
 mod offers;
 mod rules;
+mod sets;
 
+pub use counts::grow_counts;
+pub use counts::one_if;
+pub use counts::one_waits;
+pub use counts::some_loser_full;
 pub use rules::counts_losers;
 pub use rules::has_batch;
 pub use rules::inhibits;
+pub use sets::clear_inhibitions;
+pub use sets::renew_batch;
 
 // Two to the number width; 1 for a width that no table has, so that a caller need not have checked it.
 pub fn span(k: u8) -> u16

@@ -9,12 +9,13 @@ use Rattle.arbiter.proofs.Leaving.{leaves-answered, leaves-refused, lea
 use Rattle.arbiter.proofs.Refusals.{may-request, worked-out, asks-in-range}
 use Rattle.arbiter.proofs.request_in.Statement.{statement}
 use Rattle.arbiter.proofs.request_in.Tie as tie
-use Rattle.arbiter.specs.Events.{oneWaits, requestRefusal}
+use Rattle.arbiter.specs.Events.{requestRefusal}
 use Rattle.arbiter.specs.Lent.{stateOf, tableOf}
 use Rattle.arbiter.specs.declared.Hold.{Hold}
 use Rattle.arbiter.specs.declared.RackState.{RackState}
 use Rattle.cards.proofs.TableKnown.{table-range}
 use Rattle.cards.specs.declared.Table.{Table}
+use Rattle.contest.specs.Counts.{oneWaits}
 use Rattle.contest.specs.Marks.{marks}
 
 in-table-requires : tie.Need-in-table-requires
