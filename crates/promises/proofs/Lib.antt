@@ -1,5 +1,5 @@
 -- The demands proved: fairness (Sums to Fairness) and the same of a listing, states, waiting counts (OthersLeft, Counts), the round trip of a table, the
--- most stages, and the waiting report.
+-- most stages, the waiting report, and lent memory.
 pub mod Sums
 pub mod Turns
 pub mod Potentials
@@ -16,3 +16,4 @@ pub mod RoundTrip
 pub mod Settling
 pub mod Slowest
 pub mod WaitingReport
+pub mod Buffers

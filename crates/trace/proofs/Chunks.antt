@@ -98,7 +98,7 @@ size-more : (l : Listing) (line : Listed) (b : Bool) → length (l .text) ≡ 19
 size-more l line true h e = h
 size-more l line false h e = rw (length-append, h, e) (omega arith)
 
-listing-size : (s : RackState) (trace : List ℕ) (n : ℕ) → length (listing s trace n .text) ≡ 19 * listing s trace n .lines
+pub listing-size : (s : RackState) (trace : List ℕ) (n : ℕ) → length (listing s trace n .text) ≡ 19 * listing s trace n .lines
 unfolding listing lineAt
 listing-size s trace zero = refl
 listing-size s trace (suc n) = size-more (listing s trace n) _ (listing s trace n .ended) (listing-size s trace n) (text-length trace n _ _ _ _ _)
