@@ -1,9 +1,9 @@
 -- Each public contract of this crate admits one result. Assumes nothing.
 use mathlib.Core.List.{[]}
 use mathlib.Core.Path.{refl}
+use Rattle.arbiter.proofs as arbiter
 use Rattle.one_result.proofs.Laws.{one-result}
 use Rattle.one_result.specs.Determined.{Determined}
-use Rattle.arbiter.proofs as arbiter
 
 pub state-of-determined : Determined arbiter.state_of.ended arbiter.state_of.Reads.Learnt
 state-of-determined κ a x y b c p q = (one-result p q, refl)

@@ -1,8 +1,8 @@
 -- Each public contract of this crate admits one result. Assumes nothing.
 use mathlib.Core.Path.{refl}
+use Rattle.cardfile.proofs as cardfile
 use Rattle.one_result.proofs.Laws.{one-result}
 use Rattle.one_result.specs.Determined.{Determined}
-use Rattle.cardfile.proofs as cardfile
 
 pub word-determined : Determined cardfile.word.ended cardfile.word.Reads.Learnt
 word-determined κ a x y b c p q = (one-result p q, refl)

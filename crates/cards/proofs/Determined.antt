@@ -1,8 +1,8 @@
 -- Each public contract of this crate admits one result. Assumes nothing.
 use mathlib.Core.Path.{refl}
+use Rattle.cards.proofs as cards
 use Rattle.one_result.proofs.Laws.{one-result}
 use Rattle.one_result.specs.Determined.{Determined}
-use Rattle.cards.proofs as cards
 
 pub top-number-determined : Determined cards.top_number.ended cards.top_number.Reads.Learnt
 top-number-determined κ a x y b c p q = (one-result p q, refl)

@@ -1,8 +1,8 @@
 -- Each public contract of this crate admits one result. Assumes nothing.
 use mathlib.Core.Path.{refl}
+use Rattle.contest.proofs as contest
 use Rattle.one_result.proofs.Laws.{one-result}
 use Rattle.one_result.specs.Determined.{Determined}
-use Rattle.contest.proofs as contest
 
 pub span-determined : Determined contest.span.ended contest.span.Reads.Learnt
 span-determined κ a x y b c p q = (one-result (p .0) (q .0), refl)

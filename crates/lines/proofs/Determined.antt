@@ -3,9 +3,9 @@ use Prim.Native.Nat.{ℕ, zero, suc, _+_, _^_, _<_}
 use native.Mathlib.Nat.{pow-suc}
 use native.Mathlib.Omega.{arith}
 use mathlib.Core.Path.{refl}
+use Rattle.lines.proofs as lines
 use Rattle.one_result.proofs.Laws.{one-result}
 use Rattle.one_result.specs.Determined.{Determined}
-use Rattle.lines.proofs as lines
 
 -- n lines are wide enough for n
 wide : (n : ℕ) → n < 2 ^ n
