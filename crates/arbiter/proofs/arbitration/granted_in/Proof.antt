@@ -1,18 +1,20 @@
 -- `arbiter::arbitration::granted_in` meets its contract: by whether a loser's count is full. Assumes nothing.
 use Prim.Native.Nat.{ℕ}
-use mathlib.Core.Bool.{false}
+use mathlib.Core.Bool.{Bool, false, not}
 use mathlib.Core.List.{List}
-use mathlib.Core.Path.{_≡_, refl, sym, _∙_}
+use mathlib.Core.Path.{_≡_, refl, sym, ap, _∙_}
+use lib.ListN.{set}
 use borrow.Author.Needs.{needs}
 use Rattle.arbiter.proofs.Laws.{counts-grown}
-use Rattle.arbiter.proofs.Leaving.{leaves-answered}
+use Rattle.arbiter.proofs.Leaving.{leaves-answered, leaves-granted}
 use Rattle.arbiter.proofs.arbitration.granted_in.Statement.{statement}
 use Rattle.arbiter.proofs.arbitration.granted_in.Tie as tie
-use Rattle.arbiter.specs.Arbitrate.{batchNow, inhibitedNow, someLoserFull, granted, wonBy}
+use Rattle.arbiter.specs.Arbitrate.{somePreferred, batchNow, inhibitedNow, someLoserFull, countsAfter, wonBy}
 use Rattle.arbiter.specs.Lent.{stateOf, tableOf}
 use Rattle.arbiter.specs.declared.RackState.{RackState}
 use Rattle.contest.proofs.Laws.{span-of}
 use Rattle.contest.specs.Marks.{Marks, marks}
+use Rattle.contest.specs.Sets.{batchAnew, inhibitedAnew}
 
 -- the state, whatever the slots are
 module _ (c : tie.After-some-loser-full) (slots : List ℕ) where
@@ -35,25 +37,46 @@ returns c slots s is anew value =
     let tested = c .before .before in
     rw (is, c .quiet .ensures, full tested slots ∙ c .before .if1 .taken) (leaves-answered (state tested slots .table) (lent tested slots) _ 16)
 
--- no loser's count is full, and the sets are those of the arbitration
+-- no loser's count is full: the marks after the grant, whatever the slots are
+module _ (c : tie.After-grow-counts) (slots : List ℕ) where
+  abbrev cleared : tie.After-clear-inhibitions
+  cleared = c .before .before .before .before
+
+  abbrev renewed : tie.After-renew-batch
+  renewed = cleared .before .before
+
+  abbrev tested : tie.After-some-loser-full
+  tested = renewed .before .before .before .before
+
+  abbrev at : RackState
+  at = state tested slots
+
+  abbrev winner : ℕ
+  winner = given tested slots .args .w
+
+  room : someLoserFull at winner ≡ false
+  room = full tested slots ∙ renewed .before .before .before .if1 .left
+
+  grown : c .grow-counts .last .1 .1 .0 ≡ countsAfter at winner
+  grown = c .grow-counts .ensures ∙ counts-grown at winner room (given tested slots .pre .1 .0)
+
+  module _ (anew : given tested slots .args .anew ≡ not (somePreferred at)) where
+    batched : set (renewed .renew-batch .last .1 .1 .1 .0) winner false ≡ set (batchNow at) winner false
+    unfolding batchNow
+    batched =
+        ap (λ (batch : List Bool). set batch winner false)
+        (renewed .renew-batch .ensures ∙ ap (λ (b : Bool). batchAnew (at .table .rule) b (at .waiting) (at .batch)) anew)
+
+    barred : cleared .clear-inhibitions .last .1 .1 .0 ≡ inhibitedNow at
+    unfolding inhibitedNow
+    barred = cleared .clear-inhibitions .ensures ∙ ap (λ (b : Bool). inhibitedAnew (at .table .rule) b (at .inhibited)) anew
+
 returns-2 : tie.Need-returns-2
-unfolding wonBy granted batchNow inhibitedNow
 returns-2 c slots s is anew value =
-    let cleared = c .before .before .before .before in
-    let renewed = cleared .before .before in
-    let tested = renewed .before .before .before .before in
-    let given = given tested slots in
-    let room : someLoserFull (state tested slots) (given .args .w) ≡ false = full tested slots ∙ renewed .before .before .before .if1 .left in
-    rw (
-      is,
-      c .grow-counts .ensures ∙ counts-grown (state tested slots) (given .args .w) room (given .pre .1 .0),
-      cleared .clear-inhibitions .ensures,
-      renewed .renew-batch .ensures,
-      room,
-      ← (rw is at anew),
-      ← (rw is at value),
-    )
-    (record { reply = refl; marks-left = refl })
+    let then = rw is at anew in
+    rw is
+    (leaves-granted (at c slots) (winner c slots) _ _ _ _ _ _ _ _ (room c slots) refl (grown c slots) (batched c slots then) (barred c slots then) refl refl
+    (rw is at value))
 
 pub granted-in-spec : {M : Type 1} → statement M
 granted-in-spec =
