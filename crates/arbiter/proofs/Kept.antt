@@ -23,8 +23,8 @@ use Rattle.cards.proofs.Below.{same-or-not}
 use Rattle.cards.proofs.Counted.{count-most, count-one-more}
 use Rattle.cards.proofs.TableKnown.{table-card, table-range}
 use Rattle.cards.specs.Table.{inTable}
-use Rattle.contest.specs.Counts.{oneWaits}
-use Rattle.contest.specs.Marks.{isIn}
+use Rattle.rules.specs.Counts.{oneWaits}
+use Rattle.rules.specs.Marks.{isIn}
 
 -- a request by a card c that did not wait
 requested-formed : (s : RackState) (c : ℕ) → inTable (s .table .slots) c ≡ true → waits s c ≡ false → Formed s → Formed (requested s c)

@@ -18,9 +18,9 @@ use Rattle.arbiter.specs.State.{waits, countOf, linesOf}
 use Rattle.arbiter.specs.declared.RackState.{RackState}
 use Rattle.cards.proofs.Below.{any-false, same-or-not, tabulate-alike, tabulate-at, tabulate-length}
 use Rattle.cards.specs.Below.{tabulate}
-use Rattle.contest.proofs.Laws.{lines-given}
-use Rattle.contest.specs.Counts.{oneMoreOf, fullLoser, grownAt, countsGrown}
-use Rattle.contest.specs.Marks.{isIn}
+use Rattle.rules.proofs.Laws.{lines-given}
+use Rattle.rules.specs.Counts.{oneMoreOf, fullLoser, grownAt, countsGrown}
+use Rattle.rules.specs.Marks.{isIn}
 use Rattle.contest.specs.Shown.{shownAt, shownSettling}
 use Rattle.lines.proofs.Silent.{Silent, none, kept, more, silent-append, result-silent}
 

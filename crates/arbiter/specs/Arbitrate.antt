@@ -10,10 +10,10 @@ use Rattle.arbiter.specs.declared.Bus.the-variants.{Held}
 use Rattle.arbiter.specs.declared.Outcome.{Outcome}
 use Rattle.arbiter.specs.declared.RackState.{RackState}
 use Rattle.cards.specs.Below.{anyBelow, tabulate}
-use Rattle.contest.specs.Counts.{fullLoser}
-use Rattle.contest.specs.Marks.{isIn}
-use Rattle.contest.specs.Rules.{numberBy, goesFirst, countsLosers}
-use Rattle.contest.specs.Sets.{batchAnew, inhibitedAnew}
+use Rattle.rules.specs.Counts.{fullLoser}
+use Rattle.rules.specs.Marks.{isIn}
+use Rattle.rules.specs.Rules.{numberBy, goesFirst, countsLosers}
+use Rattle.rules.specs.Sets.{batchAnew, inhibitedAnew}
 use Rattle.lines.specs.Settle.{refusal, settledOr}
 use Rattle.lines.specs.declared.Settled.{Settled}
 

@@ -9,8 +9,8 @@ use Rattle.arbiter.specs.declared.Bus.the-variants.{Free}
 use Rattle.arbiter.specs.declared.Outcome.{Outcome}
 use Rattle.arbiter.specs.declared.RackState.{RackState}
 use Rattle.cards.specs.Table.{inTable}
-use Rattle.contest.specs.Counts.{oneWaits}
-use Rattle.contest.specs.Rules.{inhibits}
+use Rattle.rules.specs.Counts.{oneWaits}
+use Rattle.rules.specs.Rules.{inhibits}
 
 -- an answer with winner, lines and stages 0
 abbrev pub answered : RackState → ℕ → Outcome

@@ -10,8 +10,8 @@ use Rattle.arbiter.specs.declared.RackState.{RackState}
 use Rattle.cards.specs.Below.{allBelow, countBelow}
 use Rattle.cards.specs.Table.{hasCard, inTable, tableGood}
 use Rattle.cards.specs.declared.Table.{Table}
-use Rattle.contest.specs.Marks.{isIn}
-use Rattle.contest.specs.Rules.{linesBy, countsLosers, hasBatch, inhibits}
+use Rattle.rules.specs.Marks.{isIn}
+use Rattle.rules.specs.Rules.{linesBy, countsLosers, hasBatch, inhibits}
 
 -- the card of that number waits
 abbrev pub waits : RackState → ℕ → Bool

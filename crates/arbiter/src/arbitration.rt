@@ -6,19 +6,19 @@ ghost use mathlib.Core.Path.{_≡_};
 ghost use Rattle.arbiter.specs.Arbitrate.{arbitrated, somePreferred, valueNow, wonBy};
 ghost use Rattle.arbiter.specs.Lent.{stateOf, tableOf, Leaves};
 ghost use Rattle.arbiter.specs.declared.RackState.{RackState};
-ghost use Rattle.contest.specs.Marks.{marks};
+ghost use Rattle.rules.specs.Marks.{marks};
 use super::Bus;
 use super::Hold;
 use super::Reply;
 use super::answers::quiet;
-use contest::clear_inhibitions;
-use contest::grow_counts;
-use contest::renew_batch;
 use contest::settling_of;
 use contest::some_first;
-use contest::some_loser_full;
-use contest::span;
 use lines::Settled;
+use rules::clear_inhibitions;
+use rules::grow_counts;
+use rules::renew_batch;
+use rules::some_loser_full;
+use rules::span;
 
 // The outcome where w wins with these settled lines, on the lent marks: refusal 16, or the grant.
 pub(crate) fn granted_in(

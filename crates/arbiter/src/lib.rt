@@ -2,15 +2,15 @@
 // the state is well formed, since events keep it so. Each event is told that, and refuses with 17 where it is told no.
 ghost use mathlib.Core.Path.{_≡_};
 ghost use Rattle.arbiter.specs.Lent.{stateOf, Requests, Releases, Arbitrates};
-ghost use Rattle.contest.specs.Marks.{marks};
+ghost use Rattle.rules.specs.Marks.{marks};
 use answers::quiet;
 use answers::refusal_by;
 use arbitration::arbitrated_in;
 use cards::Table;
-use contest::one_waits;
 use marks::is_closed;
 use marks::is_holder;
 use marks::waits_at;
+use rules::one_waits;
 use sets::inhibit;
 
 mod answers;

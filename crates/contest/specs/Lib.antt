@@ -1,5 +1,1 @@
-pub mod Marks
-pub mod Rules
 pub mod Shown
-pub mod Sets
-pub mod Counts

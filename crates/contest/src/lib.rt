@@ -1,53 +1,16 @@
-// The contest for the bus: who goes first, what each card shows the lines by the rule, how they settle, and how the sets and the counts change.
+// The contest for the bus: who goes first, what each card shows the lines by the rule, and how they settle.
 // What is called for each card takes the numbers that it reads, and not the state, which would be copied each time.
-ghost use Prim.Native.Nat.{_≤_};
 ghost use mathlib.Core.Path.{_≡_};
 ghost use Rattle.cards.specs.Below.{anyBelow};
-ghost use Rattle.contest.specs.Marks.{marks};
-ghost use Rattle.contest.specs.Rules.{linesGiven, spanOf};
+ghost use Rattle.rules.specs.Marks.{marks};
 ghost use Rattle.contest.specs.Shown.{firstAt, shownSettling};
 use lines::Settled;
 use offers::goes_first;
 use offers::numbers_of;
+use rules::lines_of;
+use rules::span;
 
-mod counts;
 mod offers;
-mod rules;
-mod sets;
-
-pub use counts::grow_counts;
-pub use counts::one_if;
-pub use counts::one_waits;
-pub use counts::some_loser_full;
-pub use rules::counts_losers;
-pub use rules::has_batch;
-pub use rules::inhibits;
-pub use sets::clear_inhibitions;
-pub use sets::renew_batch;
-
-// Two to the number width; 1 for a width that no table has, so that a caller need not have checked it.
-pub fn span(k: u8) -> u16
-    ensures { λ r. ⌜ (r ≡ spanOf k) × ((1 ≤ r) × (r ≤ 64)) ⌝ }
-{
-    (cards::top_number(k) as u16) + 1
-}
-
-// How many lines the rule has. A width that no table has gets none, nor does another rule: no settling takes 0 lines.
-pub fn lines_of(k: u8, rule: u8) -> u8
-    ensures { λ r. ⌜ r ≡ linesGiven k rule ⌝ }
-{
-    if 6 < k {
-        return 0;
-    }
-    match rule {
-        0 => k,
-        1 => k + 1,
-        2 => k * 2,
-        3 => k,
-        4 => k,
-        _ => 0,
-    }
-}
 
 // Whether some card waits that goes first. The rule is asked at each card: the loop then has a body for each rule.
 pub fn some_first(

@@ -3,8 +3,8 @@ ghost use Prim.Native.Nat.{ℕ, _^_, _≤_, _<_};
 ghost use mathlib.Core.Bool.{cond, _||_};
 ghost use mathlib.Core.Path.{_≡_};
 ghost use Rattle.cards.specs.Below.{tabulate};
-ghost use Rattle.contest.specs.Marks.{marks};
-ghost use Rattle.contest.specs.Rules.{numberBy, goesFirst};
+ghost use Rattle.rules.specs.Marks.{marks};
+ghost use Rattle.rules.specs.Rules.{numberBy, goesFirst};
 ghost use Rattle.contest.specs.Shown.{shownAt};
 
 // Whether a card goes first: under rule 3 only a card of the batch does, under rule 4 only one that is not inhibited, under the others each.

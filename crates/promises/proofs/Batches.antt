@@ -16,7 +16,7 @@ use Rattle.arbiter.proofs.Winner.{Won}
 use Rattle.arbiter.specs.Arbitrate.{numberOf, preferred, somePreferred, competes, granted}
 use Rattle.arbiter.specs.State.{waits, isClosed}
 use Rattle.arbiter.specs.declared.RackState.{RackState}
-use Rattle.contest.specs.Rules.{byRule}
+use Rattle.rules.specs.Rules.{byRule}
 use Rattle.promises.proofs.Turns.{Potential}
 
 -- ---- the winner is above the cards that compete with it

@@ -26,7 +26,7 @@ use Rattle.cards.specs.Saving.{savedOf, bufferAfter, savedBytes, savedLength}
 use Rattle.cards.specs.Table.{tableGood}
 use Rattle.cards.specs.declared.Saved.{Saved}
 use Rattle.cards.specs.declared.Table.{Table}
-use Rattle.contest.specs.Marks.{Marks}
+use Rattle.rules.specs.Marks.{Marks}
 use Rattle.laptop.proofs as laptop
 use Rattle.laptop.proofs.Pairs.{bytes-length}
 use Rattle.laptop.specs.Settle.{SettlesBytes, codeOr, bytesOr}

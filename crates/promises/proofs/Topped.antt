@@ -20,8 +20,8 @@ use Rattle.arbiter.specs.declared.RackState.{RackState}
 use Rattle.cards.proofs.Below.{le-or-lt, same-or-not}
 use Rattle.cards.specs.Table.{hasCard}
 use Rattle.cards.specs.declared.Table.{Table}
-use Rattle.contest.specs.Marks.{isIn}
-use Rattle.contest.specs.Rules.{byRule, goesFirst}
+use Rattle.rules.specs.Marks.{isIn}
+use Rattle.rules.specs.Rules.{byRule, goesFirst}
 use Rattle.promises.proofs.Batches.{above, batch-potential, shut-once, lower-once}
 use Rattle.promises.proofs.Limits.{Limited}
 use Rattle.promises.proofs.Share.{others, others-fewer}

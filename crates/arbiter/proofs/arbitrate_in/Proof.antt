@@ -15,7 +15,7 @@ use Rattle.arbiter.specs.Arbitrate.{arbitrated, arbitrateRefusal}
 use Rattle.arbiter.specs.Lent.{stateOf, tableOf}
 use Rattle.arbiter.specs.declared.RackState.{RackState}
 use Rattle.cards.specs.declared.Table.{Table}
-use Rattle.contest.specs.Marks.{marks}
+use Rattle.rules.specs.Marks.{marks}
 
 is-closed-requires : tie.Need-is-closed-requires
 is-closed-requires c κs = search needs

@@ -14,7 +14,7 @@ use Rattle.arbiter.specs.declared.Bus.the-variants.{Free}
 use Rattle.arbiter.specs.declared.RackState.{RackState}
 use Rattle.cards.proofs.TableKnown.{table-range}
 use Rattle.cards.specs.declared.Table.{Table}
-use Rattle.contest.specs.Marks.{marks}
+use Rattle.rules.specs.Marks.{marks}
 
 in-table-requires : tie.Need-in-table-requires
 in-table-requires c κs = search needs

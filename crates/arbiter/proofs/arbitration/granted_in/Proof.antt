@@ -12,9 +12,9 @@ use Rattle.arbiter.proofs.arbitration.granted_in.Tie as tie
 use Rattle.arbiter.specs.Arbitrate.{somePreferred, batchNow, inhibitedNow, someLoserFull, countsAfter, wonBy}
 use Rattle.arbiter.specs.Lent.{stateOf, tableOf}
 use Rattle.arbiter.specs.declared.RackState.{RackState}
-use Rattle.contest.proofs.Laws.{span-of}
-use Rattle.contest.specs.Marks.{Marks, marks}
-use Rattle.contest.specs.Sets.{batchAnew, inhibitedAnew}
+use Rattle.rules.proofs.Laws.{span-of}
+use Rattle.rules.specs.Marks.{Marks, marks}
+use Rattle.rules.specs.Sets.{batchAnew, inhibitedAnew}
 
 -- the state, whatever the slots are
 module _ (c : tie.After-some-loser-full) (slots : List ℕ) where

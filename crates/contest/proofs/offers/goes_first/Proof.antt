@@ -1,9 +1,9 @@
 -- `contest::offers::goes_first` meets its contract: by the rule. Assumes nothing.
 use mathlib.Core.Path.{sym}
-use Rattle.contest.proofs.Laws.{other-rule}
+use Rattle.rules.proofs.Laws.{other-rule}
 use Rattle.contest.proofs.offers.goes_first.Statement.{statement}
 use Rattle.contest.proofs.offers.goes_first.Tie as tie
-use Rattle.contest.specs.Rules.{byRule, goesFirst}
+use Rattle.rules.specs.Rules.{byRule, goesFirst}
 
 pub goes-first-spec : {M : Type 1} → statement M
 unfolding goesFirst byRule
