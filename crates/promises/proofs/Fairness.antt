@@ -91,7 +91,7 @@ module _ (rule : ℕ) (r : BatchRule rule) where
       omega (
         arith,
         bounded-by waiter lower d (batch-potential waiter lower d) during s (rules-after BatchRule 2 batch-potential rule r t e before) h,
-        lower-once waiter lower d s l,
+        lower-once waiter lower d s (omega arith),
       )
 
   -- where the others together are limited by `most`

@@ -81,7 +81,7 @@ module _ (rules : ℕ → Type 0) (n : ℕ) (potential : (a b : ℕ) → a ≢ b
     pub share-but : ShareBut most rule
     share-but t e before during card h =
         let s : RackState = after (freshOf t) before in
-        rw (← same-cards t before) (total-but card during s h (most (cardsOf s)) (own t e before during card h))
+        rw (← same-cards t before) (omega (arith, total-but card during s h (most (cardsOf s)) (own t e before during card h)))
 
     pub share-of : ((cards : ℕ) → cards ≤ most cards + 1) → ShareOf (λ cards. most cards + 1) rule
     share-of wide t e before during card h =
