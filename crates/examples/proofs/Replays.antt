@@ -55,6 +55,23 @@ pub listing-replayed : replayed (loadOf file .state) listing ≡ listing
 unfolding loading replayed listing line
 listing-replayed = refl
 
+-- ---- the same table in another layout: gaps before and behind the directory, SLOT before ANUM, a column over ANUM that is passed over, records of four
+-- bytes, the cards in another order
+
+pub other-layout : List ℕ
+other-layout =
+    1 ∷ 0 ∷ 3 ∷ 3 ∷ 3 ∷ 1 ∷ 14 ∷ 0 ∷ 35 ∷ 0 ∷ 4 ∷ 0
+    ∷ 7 ∷ 7
+    ∷ 83 ∷ 76 ∷ 79 ∷ 84 ∷ 0 ∷ 1
+    ∷ 84 ∷ 69 ∷ 77 ∷ 80 ∷ 1 ∷ 2
+    ∷ 65 ∷ 78 ∷ 85 ∷ 77 ∷ 2 ∷ 1
+    ∷ 7 ∷ 7 ∷ 7
+    ∷ 3 ∷ 0 ∷ 6 ∷ 0 ∷ 1 ∷ 0 ∷ 2 ∷ 0 ∷ 2 ∷ 0 ∷ 5 ∷ 0 ∷ []
+
+pub other-layout-loads : format.loadTableOf other-layout ≡ format.loadTableOf file
+unfolding loading other-layout
+other-layout-loads = refl
+
 -- ---- the known settlings that name a rule, P8 to P10: playing every row gives the row, and the settlings are the last three of `lines`
 
 pub known-rules : (map played knownRules ≡ knownRules) × (map (λ (r : Ruled). r .settling) knownRules ≡ drop 8 known)
