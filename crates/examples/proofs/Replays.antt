@@ -15,7 +15,7 @@ use Rattle.cardfile.specs.Format as format
 use Rattle.cards.specs.Below as below
 use Rattle.cards.specs.Table as table
 use Rattle.cards.specs.declared.Table.{Table}
-use Rattle.contest.specs.Rules as rules
+use Rattle.rules.specs.Rules as rules
 use Rattle.lines.specs.Known.{rowFrom, row, known}
 use Rattle.lines.specs.Settle as settle
 use Rattle.lines.specs.Settling as settling
