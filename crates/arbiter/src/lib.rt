@@ -174,7 +174,11 @@ pub fn arbitrate_in(
     let bus = hold.bus;
     let closed = is_closed(bus);
     let told = formed & (k <= 6);
-    let refusal = first_of(!told, 17, first_of(closed, 13, first_of(hold.waiters == 0, 14, 0)));
+    let refusal = first_of(
+        !told,
+        17,
+        first_of(closed, 13, first_of(hold.waiters == 0, 14, 0)),
+    );
     if refusal != 0 {
         return quiet(hold, refusal);
     }
