@@ -51,9 +51,9 @@ static const struct screen_number screen_numbers[] = {
      "Start the rack anew: all counts begin at 0. Keep the table and the listing up to this line "
      "and report them, for somebody must see how the count got there."},
     {17, "state not well formed (before 11 to 16)",
-     "The memory of the rack does not fit its table and rule: the waiting cards, counts, batch, "
-     "inhibited cards, last winner, holder or kept line value. Load the table again. If the number "
-     "comes back, exchange the card that shows it."},
+     "The memory of the rack does not fit its table and rule: the waiting cards and how many are "
+     "stored as waiting, counts, batch, inhibited cards, last winner, holder or kept line value. "
+     "Load the table again. If the number comes back, exchange the card that shows it."},
     {18, "trace line malformed",
      "Look at this line of the trace: Q, A or R, one space, two digits, a newline and nothing "
      "else; A has 00. Blank lines and line ends of Windows are malformed too."},

@@ -21,7 +21,8 @@ void print_answer(FILE *file, const struct inquiry *inquiry);
 /* Prints a line: what the rule promises, or who goes first where it promises nothing. */
 void print_promise(FILE *file, const struct inquiry *inquiry);
 
-/* Prints a loud line if some card was granted too often in one wait: whether that was so. */
+/* Prints a loud line if some card, or all others together, were granted too often in one wait:
+ * whether that was so. */
 bool print_broken(FILE *file, const struct inquiry *inquiry);
 
 #endif

@@ -1,7 +1,8 @@
 /* The proved entries of target/staticlib/liblaptop.a.
  *
  * They take numbers and byte slices only. A slice is a pointer and a length in bytes; the pointer
- * is not null, also where the length is 0. A refusal writes nothing. */
+ * is not null, also where the length is 0. What is written must not overlap what is read: the
+ * proofs are about slices that stand apart. A refusal writes nothing. */
 #ifndef RACK_H
 #define RACK_H
 
@@ -13,7 +14,8 @@
  * Numbers and stages are entries of two bytes each, low byte first; an odd last byte is passed
  * over. Returns t, the number of stages: entries 0 to t of `stages` then hold the lines after each
  * stage, entry 0 the start, and the entries beyond keep their contents. Or returns 100 plus the
- * refusal, 21 to 25. */
+ * refusal, 21 to 25. `numbers` and `stages` may not overlap: every stage reads the numbers again,
+ * and the stages before it have been written by then. */
 uint32_t rack_settle(uint32_t m, const uint8_t *numbers, size_t numbers_len, uint8_t *stages,
                      size_t stages_len, uint32_t start);
 

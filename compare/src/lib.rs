@@ -16,6 +16,7 @@ pub mod racktrace;
 pub mod report;
 pub mod rng;
 pub mod rules;
+pub mod run;
 pub mod running;
 pub mod seen_as_bytes;
 pub mod seen_from_c;

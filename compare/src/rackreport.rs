@@ -1,7 +1,7 @@
 //! Drives the product's `rackreport`, each time in a folder of its own.
 
 use crate::folder::Folder;
-use crate::running::Running;
+use crate::run::Run;
 use std::fs::{self, File};
 use std::io::Seek;
 use std::process::{Command, Output};
@@ -15,18 +15,20 @@ fn arguments(with_square: bool) -> &'static [&'static str] {
     }
 }
 
-fn run_in(folder: Folder, trace: &[u8], with_square: bool) -> Result<Vec<u8>, String> {
-    Running::start(PROGRAM, arguments(with_square), folder.path())?.run(trace)
+/// Begins a run on a whole trace.
+pub fn begin(table: Option<&[u8]>, trace: &[u8], with_square: bool) -> Result<Run, String> {
+    Run::begin(PROGRAM, arguments(with_square), Folder::with(table)?, trace)
 }
 
 /// The whole output of one run.
 pub fn run(table: Option<&[u8]>, trace: &[u8], with_square: bool) -> Result<Vec<u8>, String> {
-    run_in(Folder::with(table)?, trace, with_square)
+    begin(table, trace, with_square)?.printed()
 }
 
 /// The whole output where `rack.tab` can't be read.
 pub fn run_with_unreadable_table(trace: &[u8], with_square: bool) -> Result<Vec<u8>, String> {
-    run_in(Folder::with_unreadable_table()?, trace, with_square)
+    let folder = Folder::with_unreadable_table()?;
+    Run::begin(PROGRAM, arguments(with_square), folder, trace)?.printed()
 }
 
 /// What a run with other arguments prints, and how many bytes of the trace it read. The trace is a

@@ -16,16 +16,23 @@ fn start() -> Result<Running, String> {
 pub struct Shared(Rc<RefCell<Option<Running>>>);
 
 impl Shared {
-    /// Sends records and waits for so many bytes of answers.
-    pub fn answers(&self, records: &[u8], length: usize) -> Result<Vec<u8>, String> {
+    /// Sends records and waits for so many bytes of answers. What the caller does meanwhile is
+    /// done while the program works.
+    pub fn answers<T>(
+        &self,
+        records: &[u8],
+        length: usize,
+        meanwhile: impl FnOnce() -> T,
+    ) -> Result<(Vec<u8>, T), String> {
         let mut running = match self.0.take() {
             Some(running) => running,
             None => start()?,
         };
         running.send(records)?;
+        let done = meanwhile();
         let answers = running.answer(length)?;
         self.0.replace(Some(running));
-        Ok(answers)
+        Ok((answers, done))
     }
 
     /// Ends the program, so that what a wrong answer left behind reaches no other case.
@@ -41,5 +48,5 @@ pub fn alone() -> Result<Running, String> {
 
 /// The whole output for this input.
 pub fn run(records: &[u8]) -> Result<Vec<u8>, String> {
-    start()?.run(records)
+    start()?.feed(records).printed()
 }

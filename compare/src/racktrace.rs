@@ -2,13 +2,10 @@
 
 use crate::folder::Folder;
 use crate::listing::LISTING_LINE;
+use crate::run::Run;
 use crate::running::Running;
 
 const PROGRAM: &str = "target/bin/racktrace";
-
-fn start(folder: &Folder) -> Result<Running, String> {
-    Running::start(PROGRAM, &[], folder.path())
-}
 
 /// A running `racktrace` that is fed and heard line by line.
 pub struct Session {
@@ -20,7 +17,7 @@ impl Session {
     pub fn start(table: Option<&[u8]>) -> Result<Session, String> {
         let folder = Folder::with(table)?;
         Ok(Session {
-            program: start(&folder)?,
+            program: Running::start(PROGRAM, &[], folder.path())?,
             _folder: folder,
         })
     }
@@ -47,14 +44,17 @@ impl Session {
     }
 }
 
+/// Begins a run on a whole trace.
+pub fn begin(table: Option<&[u8]>, trace: &[u8]) -> Result<Run, String> {
+    Run::begin(PROGRAM, &[], Folder::with(table)?, trace)
+}
+
 /// The whole output of one run.
 pub fn run(table: Option<&[u8]>, trace: &[u8]) -> Result<Vec<u8>, String> {
-    let folder = Folder::with(table)?;
-    start(&folder)?.run(trace)
+    begin(table, trace)?.printed()
 }
 
 /// The whole output where `rack.tab` can't be read.
 pub fn run_with_unreadable_table(trace: &[u8]) -> Result<Vec<u8>, String> {
-    let folder = Folder::with_unreadable_table()?;
-    start(&folder)?.run(trace)
+    Run::begin(PROGRAM, &[], Folder::with_unreadable_table()?, trace)?.printed()
 }

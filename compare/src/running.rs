@@ -7,7 +7,7 @@ use std::io::{ErrorKind, Read, Write};
 use std::path::Path;
 use std::process::{Child, ChildStdin, ChildStdout, Command, Stdio};
 use std::sync::mpsc::{channel, Receiver, RecvTimeoutError};
-use std::thread;
+use std::thread::{self, JoinHandle};
 use std::time::{Duration, Instant};
 
 const TIME_FOR_AN_ANSWER: Duration = Duration::from_secs(10);
@@ -104,15 +104,15 @@ impl Running {
         Ok(std::mem::take(&mut self.heard))
     }
 
-    /// All that the program prints for this input, which is written beside the reading,
-    /// so that neither pipe blocks.
-    pub fn run(mut self, bytes: &[u8]) -> Result<Vec<u8>, String> {
+    /// Gives the program its whole input, which is written beside the reading, so that neither
+    /// pipe blocks.
+    pub fn feed(mut self, bytes: &[u8]) -> Fed {
         let mut input = self.input.take().expect("the input is piped");
         let bytes = bytes.to_vec();
-        let writer = thread::spawn(move || write_all(&mut input, &bytes));
-        let printed = self.finish()?;
-        writer.join().expect("the writer doesn't panic")?;
-        Ok(printed)
+        Fed {
+            program: self,
+            writer: thread::spawn(move || write_all(&mut input, &bytes)),
+        }
     }
 
     /// The next piece of output, or nothing at its end.
@@ -123,6 +123,21 @@ impl Running {
             Err(RecvTimeoutError::Disconnected) => Ok(None),
             Err(RecvTimeoutError::Timeout) => Err("no answer in time".to_string()),
         }
+    }
+}
+
+/// A program that has its whole input and runs beside its caller.
+pub struct Fed {
+    program: Running,
+    writer: JoinHandle<Result<(), String>>,
+}
+
+impl Fed {
+    /// All that the program prints.
+    pub fn printed(self) -> Result<Vec<u8>, String> {
+        let printed = self.program.finish()?;
+        self.writer.join().expect("the writer doesn't panic")?;
+        Ok(printed)
     }
 }
 

@@ -47,7 +47,8 @@ fn ending(listing: &[u8], history: &[Entry]) -> u32 {
     }
 }
 
-fn report(table: &Table, listing: &[u8], with_square: bool) -> String {
+/// The lines before the square, and those of the square.
+fn report(table: &Table, listing: &[u8]) -> (String, String) {
     let whole = history(listing, table).expect("the listing of this table");
     let counted = counted(&whole);
     let cards = table.numbers();
@@ -56,25 +57,24 @@ fn report(table: &Table, listing: &[u8], with_square: bool) -> String {
         let slot = table.slots[usize::from(card)];
         card_line(slot, card, figures(&waits(counted, card)))
     }));
-    if with_square {
-        let rows = cards.iter().zip(square(counted, &cards));
-        text.extend(rows.map(|(&card, row)| square_line(card, &row)));
-    }
-    text
+    let rows = cards.iter().zip(square(counted, &cards));
+    let square = rows.map(|(&card, row)| square_line(card, &row)).collect();
+    (text, square)
 }
 
-/// The whole report of a table file (nothing if it can't be opened) and a trace.
-pub fn text(file: Option<&[u8]>, trace: &[u8], with_square: bool) -> Vec<u8> {
-    let text = match table::load(file.unwrap_or(&[])) {
-        Err(refusal) => opening_line("tab.", refusal, 0),
-        Ok(table) => report(&table, &listing(file, trace), with_square),
+/// The whole report of a table file (nothing if it can't be opened) and a trace, without its square
+/// and with it.
+pub fn texts(file: Option<&[u8]>, trace: &[u8]) -> [Vec<u8>; 2] {
+    let (text, square) = match table::load(file.unwrap_or(&[])) {
+        Err(refusal) => (opening_line("tab.", refusal, 0), String::new()),
+        Ok(table) => report(&table, &listing(file, trace)),
     };
-    text.into_bytes()
+    [text.clone(), text + &square].map(String::into_bytes)
 }
 
 #[cfg(test)]
 mod tests {
-    use super::{card_line, ending, opening_line, square_line, text, CARD_LINE, OPENING_LINE};
+    use super::{card_line, ending, opening_line, square_line, texts, CARD_LINE, OPENING_LINE};
     use crate::figures::{Figures, MOST_EVENTS};
     use crate::listing::LISTING_LINE;
     use crate::waiting::Entry::{self, Asked, Refused};
@@ -117,7 +117,7 @@ mod tests {
 
     #[test]
     fn a_refused_table_is_all_there_is() {
-        assert_eq!(text(None, b"Q 02\n", true), b"tab. 01 00000\n");
-        assert_eq!(text(Some(&[7; 12]), b"", false), b"tab. 02 00000\n");
+        assert_eq!(texts(None, b"Q 02\n"), [b"tab. 01 00000\n"; 2]);
+        assert_eq!(texts(Some(&[7; 12]), b""), [b"tab. 02 00000\n"; 2]);
     }
 }

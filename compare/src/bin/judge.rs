@@ -26,9 +26,9 @@ fn options(mut words: impl Iterator<Item = String>) -> Result<Options, String> {
         sizes: Sizes {
             settlings: 200_000,
             tables: 100_000,
-            traces: 5_000,
-            reports: 2_000,
-            states: 50_000,
+            traces: 4_000,
+            reports: 400,
+            states: 30_000,
         },
         seed: 1,
         case: None,

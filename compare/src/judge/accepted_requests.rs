@@ -3,7 +3,6 @@
 
 use super::expect::expect;
 use crate::figures::done_events;
-use crate::racktrace;
 use crate::table::{self, Table};
 use crate::waiting::{history, waits, Entry};
 use crate::waiting_report::{CARD_LINE, OPENING_LINE};
@@ -49,9 +48,9 @@ fn judge(table: &Table, listing: &[u8], report: &[u8]) -> Result<(), String> {
 }
 
 /// A refused table leaves nothing to count.
-pub fn hold(file: Option<&[u8]>, trace: &[u8], report: &[u8]) -> Result<(), String> {
+pub fn hold(file: Option<&[u8]>, listing: &[u8], report: &[u8]) -> Result<(), String> {
     match table::load(file.unwrap_or(&[])) {
-        Ok(table) => judge(&table, &racktrace::run(file, trace)?, report),
+        Ok(table) => judge(&table, listing, report),
         Err(_) => Ok(()),
     }
 }

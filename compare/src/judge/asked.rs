@@ -25,27 +25,25 @@ fn keeps_counting(record: &[u8], got: &[u8]) -> Result<(), String> {
     if before.waiters != before.recount() {
         return Ok(());
     }
-    let record = shown(record);
     expect(after.waiters, after.recount())
-        .map_err(|what| format!("cards that wait: {what}; record of {record}"))
+        .map_err(|what| format!("cards that wait: {what}; record of {}", shown(record)))
 }
 
 /// Puts records to both in one go and gives the answers, which agree byte for byte.
 pub fn hold(program: &Shared, records: &[Vec<u8>], met: &mut Met) -> Result<Vec<Vec<u8>>, String> {
-    let lengths: Vec<usize> = records.iter().map(|record| answer_length(record)).collect();
-    let printed = program.answers(&records.concat(), lengths.iter().sum())?;
+    let length = records.iter().map(|record| answer_length(record)).sum();
+    let by_reference = || -> Vec<Vec<u8>> { records.iter().map(|record| answer(record)).collect() };
+    let (printed, wanted) = program.answers(&records.concat(), length, by_reference)?;
     let mut rest = &printed[..];
-    let mut answers = Vec::new();
-    for (record, length) in records.iter().zip(lengths) {
-        let (got, after) = rest.split_at(length);
-        same(record, got, &answer(record))
+    for (record, wanted) in records.iter().zip(&wanted) {
+        let (got, after) = rest.split_at(wanted.len());
+        same(record, got, wanted)
             .and_then(|()| keeps_counting(record, got))
             .inspect_err(|_| program.end())?;
         met.meet(number_of(got));
-        answers.push(got.to_vec());
         rest = after;
     }
-    Ok(answers)
+    Ok(wanted)
 }
 
 /// Both give the stated number; gives their answer.

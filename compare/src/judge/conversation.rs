@@ -70,5 +70,6 @@ pub fn converse(
         }
     }
     conversation.finish(&trace[answered..])?;
-    waiting_counts::hold(file, trace, met)
+    let (_, greatest_count) = waiting_counts::listing_and_count(Some(file), trace);
+    waiting_counts::hold(file, greatest_count, met)
 }

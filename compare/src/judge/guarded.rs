@@ -21,6 +21,15 @@ impl Guarded {
         let end = self.bytes.len() - GUARD;
         &mut self.bytes[GUARD..end]
     }
+
+    fn first_difference(&self, wanted: &Guarded) -> String {
+        let pairs = self.bytes.iter().zip(&wanted.bytes);
+        let at = pairs.take_while(|(got, wanted)| got == wanted).count();
+        let (got, wanted) = (self.bytes[at], wanted.bytes[at]);
+        let place = at as i64 - GUARD as i64;
+        let length = self.bytes.len() - 2 * GUARD;
+        format!("byte {place} of {length} is {got}, expected {wanted}")
+    }
 }
 
 pub fn noise(length: usize, rng: &mut Rng) -> Vec<u8> {
@@ -46,13 +55,8 @@ pub fn agreed(
     if answer != expected {
         return Err(format!("answer {answer}, expected {expected}"));
     }
-    let pairs = by_product.bytes.iter().zip(&by_reference.bytes);
-    if let Some(at) = pairs.into_iter().position(|(ours, theirs)| ours != theirs) {
-        let (got, wanted) = (by_product.bytes[at], by_reference.bytes[at]);
-        let place = at as i64 - GUARD as i64;
-        return Err(format!(
-            "byte {place} of {length} is {got}, expected {wanted}"
-        ));
+    if by_product != by_reference {
+        return Err(by_product.first_difference(&by_reference));
     }
     Ok((answer, by_product.lent().to_vec()))
 }

@@ -4,6 +4,7 @@ use super::met::Met;
 use crate::report::Report;
 use crate::rng::Rng;
 use std::panic::{catch_unwind, AssertUnwindSafe};
+use std::time::Instant;
 
 type Check = Box<dyn Fn(&mut Rng, &mut Met) -> Result<(), String>>;
 
@@ -86,9 +87,11 @@ impl Group {
     pub fn run(&self, master: u64, met: &mut Met, report: &mut Report) {
         let total: u64 = self.kinds.iter().map(|kind| self.cases_of(kind)).sum();
         println!("{}: {} tests, {total} cases", self.title, self.kinds.len());
+        let begun = Instant::now();
         for kind in &self.kinds {
             run_kind(kind, self.cases_of(kind), master, met, report);
         }
+        println!("{}: {:.1} s", self.title, begun.elapsed().as_secs_f64());
     }
 }
 

@@ -4,10 +4,10 @@ use super::expect::expect;
 use super::kind::Kind;
 use super::met::Met;
 use super::named_tables::{file_with, WORKED_TABLE};
-use super::reports::{hold, same};
+use super::reports::{agreed, same};
 use crate::figures::MOST_EVENTS;
 use crate::rackreport;
-use crate::waiting_report::{text, OPENING_LINE};
+use crate::waiting_report::{texts, OPENING_LINE};
 
 const WORKED_TRACE: &str = "\
 Q 02\nQ 05\nQ 06\nA 00\nQ 06\nA 00\nR 05\nR 06\nA 00\nR 05\nA 00\nR 02\nA 00\nR 06\nA 00\n";
@@ -55,9 +55,9 @@ fn written(
     let trace = trace.as_bytes();
     [
         Kind::named(format!("{name}-report-by-the-reference"), move |_| {
-            let of = |with_square| text(Some(&file), trace, with_square);
-            same(&of(false), stated[0].as_bytes())?;
-            same(&of(true), stated[1].as_bytes())
+            let texts = texts(Some(&file), trace);
+            same(&texts[0], stated[0].as_bytes())?;
+            same(&texts[1], stated[1].as_bytes())
         }),
         Kind::named(format!("{name}-report-by-the-product"), move |_| {
             let of = |with_square| rackreport::run(Some(&for_product), trace, with_square);
@@ -69,8 +69,7 @@ fn written(
 
 /// Both agree on a report that opens as stated.
 fn opens(file: Option<&[u8]>, trace: &[u8], stated: &str, met: &mut Met) -> Result<(), String> {
-    hold(file, trace, met)?;
-    let report = text(file, trace, false);
+    let report = agreed(file, trace, met)?;
     same(&report[..OPENING_LINE], format!("{stated}\n").as_bytes())
 }
 
@@ -186,8 +185,7 @@ fn a_great_variance(met: &mut Met) -> Result<(), String> {
     let trace = rounds(AT_ONCE, "02") + &waits;
     let file = file_with(3, 0, &[(2, 1), (6, 3)]);
     let figures = "01 02 07282 14563/07282 001544161535289/0053027524";
-    hold(Some(&file), trace.as_bytes(), met)?;
-    let report = text(Some(&file), trace.as_bytes(), false);
+    let report = agreed(Some(&file), trace.as_bytes(), met)?;
     let report = String::from_utf8_lossy(&report);
     expect(
         report.lines().take(2).collect(),

@@ -11,26 +11,37 @@ use super::trace_maker::{
 };
 use crate::figures::MOST_EVENTS;
 use crate::rackreport;
+use crate::racktrace;
 use crate::rng::Rng;
 use crate::rules::GREATEST_RULE;
-use crate::waiting_report::text;
+use crate::waiting_report::texts;
 
-/// Two runs of the program, one with the square, against the reference's text.
+/// Two runs of the program, one with the square, against the reference's texts.
 pub fn hold(file: Option<&[u8]>, trace: &[u8], met: &mut Met) -> Result<(), String> {
-    hold_both(file, trace, met).map_err(|what| {
+    agreed(file, trace, met).map(|_| ())
+}
+
+/// The report that both give, with its square.
+pub fn agreed(file: Option<&[u8]>, trace: &[u8], met: &mut Met) -> Result<Vec<u8>, String> {
+    hold_all(file, trace, met).map_err(|what| {
         let (file, trace) = (shown(file.unwrap_or(&[])), shown(trace));
         format!("{what}; table of {file}; trace of {trace}")
     })
 }
 
-fn hold_both(file: Option<&[u8]>, trace: &[u8], met: &mut Met) -> Result<(), String> {
-    for with_square in [false, true] {
-        let printed = rackreport::run(file, trace, with_square)?;
-        same(&printed, &text(file, trace, with_square))?;
-        met.meet(number_of(&printed));
-        accepted_requests::hold(file, trace, &printed)?;
-    }
-    Ok(())
+/// The report with its square begins with the report without it, so that the requests are counted
+/// against one of them.
+fn hold_all(file: Option<&[u8]>, trace: &[u8], met: &mut Met) -> Result<Vec<u8>, String> {
+    let plain = rackreport::begin(file, trace, false)?;
+    let with_square = rackreport::begin(file, trace, true)?;
+    let listing = racktrace::begin(file, trace)?;
+    let wanted = texts(file, trace);
+    same(&plain.printed()?, &wanted[0])?;
+    let printed = with_square.printed()?;
+    same(&printed, &wanted[1])?;
+    met.meet(number_of(&printed));
+    accepted_requests::hold(file, &listing.printed()?, &printed)?;
+    Ok(printed)
 }
 
 /// The number in the opening line of a report that agrees with the reference's.

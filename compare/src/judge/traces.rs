@@ -11,7 +11,7 @@ use super::trace_maker::{
     asks_again, blind, full_table_file, mixed, renewing, saturated, table_file,
 };
 use super::waiting_counts;
-use crate::listing::{self, LISTING_LINE, TRACE_LINE};
+use crate::listing::{LISTING_LINE, TRACE_LINE};
 use crate::racktrace;
 use crate::rng::Rng;
 use crate::rules::GREATEST_RULE;
@@ -22,10 +22,12 @@ const NEVER_LISTED: u32 = 16;
 
 /// One run of the program against the reference's listing.
 pub fn hold(file: Option<&[u8]>, trace: &[u8], met: &mut Met) -> Result<(), String> {
-    let printed = racktrace::run(file, trace)?;
-    same(&printed, &listing::listing(file, trace))
+    let run = racktrace::begin(file, trace)?;
+    let (expected, greatest_count) = waiting_counts::listing_and_count(file, trace);
+    let printed = run.printed()?;
+    same(&printed, &expected)
         .and_then(|()| meet_all(&printed, met))
-        .and_then(|()| waiting_counts::hold(file.unwrap_or(&[]), trace, met))
+        .and_then(|()| waiting_counts::hold(file.unwrap_or(&[]), greatest_count, met))
         .map_err(|what| {
             let (file, trace) = (shown(file.unwrap_or(&[])), shown(trace));
             format!("{what}; table of {file}; trace of {trace}")

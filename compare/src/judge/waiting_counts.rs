@@ -16,19 +16,20 @@ fn greatest_count(rack: &Rack) -> usize {
     rack.counts.iter().max().copied().unwrap_or(0).into()
 }
 
-/// The greatest count that the reference's state has after any line of the trace.
-fn greatest_count_met(file: &[u8], trace: &[u8]) -> usize {
-    let (mut session, _) = Session::start(Some(file));
+/// The reference's listing, and the greatest count that its state has after any line of the trace.
+pub fn listing_and_count(file: Option<&[u8]>, trace: &[u8]) -> (Vec<u8>, usize) {
+    let (mut session, mut printed) = Session::start(file);
     let after_each = trace.chunks(TRACE_LINE).map(|line| {
-        session.answer(line);
+        printed.extend(session.answer(line));
         greatest_count(session.rack())
     });
-    after_each.max().unwrap_or(0)
+    let greatest = after_each.max().unwrap_or(0);
+    (printed, greatest)
 }
 
 /// A table that is refused leaves no rack. In a rack of one card nobody ever loses, so that N - 1
 /// is reached by doing nothing and doesn't count.
-pub fn hold(file: &[u8], trace: &[u8], met: &mut Met) -> Result<(), String> {
+pub fn hold(file: &[u8], met_count: usize, met: &mut Met) -> Result<(), String> {
     let (rack, refusal) = Rack::load(file);
     if refusal != 0 {
         return Ok(());
@@ -36,7 +37,6 @@ pub fn hold(file: &[u8], trace: &[u8], met: &mut Met) -> Result<(), String> {
     let cards = rack.table.numbers().len();
     let counts = rule(rack.table.rule).counts;
     let most = if counts { cards - 1 } else { 0 };
-    let met_count = greatest_count_met(file, trace);
     if met_count > most {
         return Err(format!(
             "a waiting count of {met_count} in a rack of {cards} cards, at most {most}"

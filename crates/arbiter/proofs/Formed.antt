@@ -17,8 +17,8 @@ use Rattle.cards.proofs.TableKnown.{table-known, card-range}
 use Rattle.cards.specs.Below.{anyBelow}
 use Rattle.cards.specs.Table.{tableGood}
 use Rattle.cards.specs.declared.Table.{Table}
-use Rattle.contest.specs.Marks.{isIn}
-use Rattle.contest.specs.Rules.{linesBy}
+use Rattle.rules.specs.Marks.{isIn}
+use Rattle.rules.specs.Rules.{linesBy}
 
 -- the marks of a number
 pub record Mark (s : RackState) (n : ℕ) : Type 0 where

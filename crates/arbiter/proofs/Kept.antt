@@ -16,14 +16,15 @@ use Rattle.arbiter.proofs.Seen.{NoGrant, refused, full, asked, handed, 
 use Rattle.arbiter.proofs.Tests.{and-right, both, or-so, set-default, replicate-default}
 use Rattle.arbiter.proofs.Winner.{Won}
 use Rattle.arbiter.specs.Arbitrate.{somePreferred, batchNow, inhibitedNow, valueNow, someLoserFull, granted, eventOf}
-use Rattle.arbiter.specs.Events.{oneWaits, requested, released}
+use Rattle.arbiter.specs.Events.{requested, released}
 use Rattle.arbiter.specs.State.{waits, countOf, inBatch, isCard, linesOf, recount, wellFormed}
 use Rattle.arbiter.specs.declared.RackState.{RackState}
 use Rattle.cards.proofs.Below.{same-or-not}
 use Rattle.cards.proofs.Counted.{count-most, count-one-more}
 use Rattle.cards.proofs.TableKnown.{table-card, table-range}
 use Rattle.cards.specs.Table.{inTable}
-use Rattle.contest.specs.Marks.{isIn}
+use Rattle.rules.specs.Counts.{oneWaits}
+use Rattle.rules.specs.Marks.{isIn}
 
 -- a request by a card c that did not wait
 requested-formed : (s : RackState) (c : ℕ) → inTable (s .table .slots) c ≡ true → waits s c ≡ false → Formed s → Formed (requested s c)

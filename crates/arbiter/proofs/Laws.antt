@@ -9,17 +9,18 @@ use lib.Dec.{eqb}
 use lib.ListN.{length, getD, set, length-append, length-set}
 use lib.Pow.{pow-mono}
 use lib.Seq.{getD-set-other}
-use borrow.Author.Tests.{leb-false, eq-eqb, ne-eqb}
+use borrow.Author.Tests.{lt-ltb, leb-false, eqb-true, eq-eqb, ne-eqb}
 use Rattle.arbiter.proofs.Tests.{set-default}
 use Rattle.arbiter.specs.Arbitrate.{numberOf, preferred, somePreferred, competes}
-use Rattle.arbiter.specs.Arbitrate.{competingBelow, settlingOf, fullLoser, someLoserFull, oneMore, losersCounted, winnerStopped, granted}
+use Rattle.arbiter.specs.Arbitrate.{competingBelow, settlingOf, someLoserFull, oneMore, losersCounted, winnerStopped, countsAfter, granted}
 use Rattle.arbiter.specs.Lent.{marksOf}
 use Rattle.arbiter.specs.State.{waits, countOf, linesOf}
 use Rattle.arbiter.specs.declared.RackState.{RackState}
-use Rattle.cards.proofs.Below.{any-false, same-or-not, tabulate-at, tabulate-length}
+use Rattle.cards.proofs.Below.{any-false, same-or-not, tabulate-alike, tabulate-at, tabulate-length}
 use Rattle.cards.specs.Below.{tabulate}
-use Rattle.contest.proofs.Laws.{lines-given}
-use Rattle.contest.specs.Marks.{isIn}
+use Rattle.rules.proofs.Laws.{lines-given}
+use Rattle.rules.specs.Counts.{oneMoreOf, fullLoser, grownAt, countsGrown}
+use Rattle.rules.specs.Marks.{isIn}
 use Rattle.contest.specs.Shown.{shownAt, shownSettling}
 use Rattle.lines.proofs.Silent.{Silent, none, kept, more, silent-append, result-silent}
 
@@ -107,3 +108,23 @@ loser-room s w room small two a below t = go (same-or-not a w)
         let span : 2 ^ s .table .k ≤ 2 ^ 6 = pow-mono small in
         let waiting : waits s a ≡ true = sym (getD-set-other (s .waiting) w a false false d) ∙ t in
         rw (getD-set-other (s .counts) w a 0 0 d) (omega (arith, not-full s w a room below d two waiting))
+
+-- and the counts grow as document 01 says: none comes to the 255 at which one more would stop
+pub counts-grown : (s : RackState) (w : ℕ) → someLoserFull s w ≡ false → s .table .k ≤ 6
+    → countsGrown (s .table .rule) (winnerStopped s w) (set (s .counts) w 0) ≡ countsAfter s w
+unfolding countsGrown losersCounted
+counts-grown s w room small = go (eqb (s .table .rule) 2) refl
+  where
+    one : s .table .rule ≡ 2 → (a : ℕ) → a < 64 → (b : Bool) → isIn (winnerStopped s w) a ≡ b
+        → cond b (oneMoreOf 255 (getD (set (s .counts) w 0) a 0)) (getD (set (s .counts) w 0) a 0)
+        ≡ cond b (getD (set (s .counts) w 0) a 0 + 1) (getD (set (s .counts) w 0) a 0)
+    one two a below true t = rw (lt-ltb _ 255 (loser-room s w room small two a below t))
+    one two a below false t = refl
+
+    go : (b : Bool) → eqb (s .table .rule) 2 ≡ b
+        → cond b (tabulate 64 (grownAt (winnerStopped s w) (set (s .counts) w 0))) (set (s .counts) w 0)
+        ≡ cond b (tabulate 64 (oneMore (winnerStopped s w) (set (s .counts) w 0))) (set (s .counts) w 0)
+    go true e =
+        tabulate-alike 64 (grownAt (winnerStopped s w) (set (s .counts) w 0)) (oneMore (winnerStopped s w) (set (s .counts) w 0))
+        (λ a below. one (eqb-true (s .table .rule) 2 e) a below (isIn (winnerStopped s w) a) refl)
+    go false e = refl

@@ -1,19 +1,24 @@
 -- How an event on lent marks leaves them, where it is refused and where it is done. Assumes nothing.
-use Prim.Native.Nat.{ℕ, _^_, _%_}
+use Prim.Native.Nat.{ℕ, _-_, _^_, _%_}
 use mathlib.Core.Bool.{Bool, true, false, cond}
+use mathlib.Core.List.{List}
 use mathlib.Core.Logic.{_≢_}
 use mathlib.Core.Path.{_≡_, refl}
 use lib.Dec.{eqb}
+use lib.ListN.{set}
 use borrow.Author.Tests.{eq-eqb, ne-eqb}
-use Rattle.arbiter.specs.Arbitrate.{settlingOf, winnerOf, someLoserFull, granted, grantTo, wonBy, arbitrated}
+use Rattle.arbiter.specs.Arbitrate.{batchNow, inhibitedNow, settlingOf, valueNow, winnerOf, someLoserFull, winnerStopped, countsAfter}
+use Rattle.arbiter.specs.Arbitrate.{granted, grantTo, wonBy, arbitrated}
 use Rattle.arbiter.specs.Events.{answered, answeredBy}
 use Rattle.arbiter.specs.Lent.{stateOf, quietReply, outcomeFrom, Leaves}
+use Rattle.arbiter.specs.declared.Bus.{Bus}
+use Rattle.arbiter.specs.declared.Bus.the-variants.{Held}
 use Rattle.arbiter.specs.declared.Hold.{Hold}
 use Rattle.arbiter.specs.declared.Outcome.{Outcome}
 use Rattle.arbiter.specs.declared.RackState.{RackState}
 use Rattle.arbiter.specs.declared.Reply.{Reply}
 use Rattle.cards.specs.declared.Table.{Table}
-use Rattle.contest.specs.Marks.{Marks}
+use Rattle.rules.specs.Marks.{Marks, marks}
 use Rattle.lines.specs.declared.Settled.{Settled}
 
 module _ (table : Table) (m : Marks) (hold : Hold) where
@@ -62,3 +67,21 @@ module _ (table : Table) (m : Marks) (hold : Hold) (t : Settled) (is : t ≡ set
       → Leaves (wonBy (stateOf table m hold) (t .lines % 2 ^ table .k) t) r m′ → Leaves (arbitrated (stateOf table m hold)) r m′
   unfolding arbitrated
   leaves-settled none left = rw (← is, eq-eqb (t .answer) 0 none) left
+
+-- a grant, by what each part of the state is then
+pub leaves-granted : (s : RackState) (w : ℕ) (t : Settled) (waiting : List Bool) (counts : List ℕ) (batch inhibited : List Bool) (bus : Bus)
+    (waiters value : ℕ)
+    → someLoserFull s w ≡ false → waiting ≡ winnerStopped s w → counts ≡ countsAfter s w → batch ≡ set (batchNow s) w false → inhibited ≡ inhibitedNow s
+    → bus ≡ Held w → waiters ≡ s .waiters - 1 → value ≡ valueNow s
+    → Leaves (wonBy s w t)
+    (record {
+      hold = record { last = w; bus = bus; value = value; waiters = waiters };
+      answer = 0;
+      winner = w;
+      lines = t .lines;
+      stages = t .stages;
+    })
+    (marks waiting counts batch inhibited)
+unfolding wonBy granted
+leaves-granted s w t waiting counts batch inhibited bus waiters value room p q b i u n v =
+    rw (room, p, q, b, i, u, n, v) (record { reply = refl; marks-left = refl })

@@ -15,7 +15,7 @@ use Rattle.arbiter.proofs.Tests.{and-left}
 use Rattle.arbiter.specs.Arbitrate.{numberOf, competes, competingBelow, competing, settlingOf, valueNow}
 use Rattle.arbiter.specs.State.{waits, countOf, linesOf}
 use Rattle.arbiter.specs.declared.RackState.{RackState}
-use Rattle.contest.specs.Rules.{byRule, linesBy, numberBy}
+use Rattle.rules.specs.Rules.{byRule, linesBy, numberBy}
 use Rattle.lines.proofs.Refusal.{not-refused}
 use Rattle.lines.proofs.Stages.{settled-greatest}
 use Rattle.lines.specs.Greatest.{greatest}

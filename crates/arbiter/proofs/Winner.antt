@@ -14,7 +14,7 @@ use Rattle.arbiter.specs.State.{waits, isCard, linesOf, wellFormed}
 use Rattle.arbiter.specs.declared.RackState.{RackState}
 use Rattle.cards.proofs.Below.{le-or-lt, any-not-none, none-any}
 use Rattle.cards.specs.Below.{anyBelow}
-use Rattle.contest.specs.Rules.{byRule, goesFirst}
+use Rattle.rules.specs.Rules.{byRule, goesFirst}
 use Rattle.lines.proofs.Stages.{settled-greatest}
 use Rattle.lines.specs.Greatest.{greatest}
 

@@ -3,15 +3,17 @@ use Prim.Native.Nat.{ℕ, zero, suc, _+_, _-_, _^_, _%_}
 use mathlib.Core.Bool.{Bool, false, cond, not, _&&_, _||_}
 use mathlib.Core.List.{List, [], _∷_, _++_}
 use lib.Dec.{leb, eqb}
-use lib.ListN.{getD, set, replicate}
+use lib.ListN.{getD, set}
 use Rattle.arbiter.specs.Events.{answered, answeredBy, requestOf, releaseOf}
 use Rattle.arbiter.specs.State.{waits, countOf, inBatch, isInhibited, isClosed, linesOf, wellFormed, withMarks, withSets, withBus, withValue}
 use Rattle.arbiter.specs.declared.Bus.the-variants.{Held}
 use Rattle.arbiter.specs.declared.Outcome.{Outcome}
 use Rattle.arbiter.specs.declared.RackState.{RackState}
 use Rattle.cards.specs.Below.{anyBelow, tabulate}
-use Rattle.contest.specs.Marks.{isIn}
-use Rattle.contest.specs.Rules.{numberBy, goesFirst}
+use Rattle.rules.specs.Counts.{fullLoser}
+use Rattle.rules.specs.Marks.{isIn}
+use Rattle.rules.specs.Rules.{numberBy, goesFirst, countsLosers}
+use Rattle.rules.specs.Sets.{batchAnew, inhibitedAnew}
 use Rattle.lines.specs.Settle.{refusal, settledOr}
 use Rattle.lines.specs.declared.Settled.{Settled}
 
@@ -36,10 +38,10 @@ competes s a = waits s a && (preferred s a || not (somePreferred s))
 
 -- the batch and the inhibited cards at the arbitration, the winner still in the batch
 unfoldable pub batchNow : RackState → List Bool
-batchNow s = cond (not (somePreferred s) && eqb (s .table .rule) 3) (s .waiting) (s .batch)
+batchNow s = batchAnew (s .table .rule) (not (somePreferred s)) (s .waiting) (s .batch)
 
 unfoldable pub inhibitedNow : RackState → List Bool
-inhibitedNow s = cond (not (somePreferred s) && eqb (s .table .rule) 4) (replicate 64 false) (s .inhibited)
+inhibitedNow s = inhibitedAnew (s .table .rule) (not (somePreferred s)) (s .inhibited)
 
 -- the competing numbers of the cards below n, by rising card
 unfoldable pub competingBelow : RackState → ℕ → List ℕ
@@ -63,11 +65,8 @@ abbrev pub winnerOf : RackState → ℕ
 winnerOf s = settlingOf s .lines % 2 ^ s .table .k
 
 -- refusal 16: under rule 2 a loser's count is already 2 ^ k - 1
-abbrev pub fullLoser : ℕ → List Bool → List ℕ → ℕ → ℕ → Bool
-fullLoser full waiting counts w a = not (eqb a w) && isIn waiting a && leb full (getD counts a 0)
-
 unfoldable pub someLoserFull : RackState → ℕ → Bool
-someLoserFull s w = eqb (s .table .rule) 2 && anyBelow 64 (fullLoser (2 ^ s .table .k - 1) (s .waiting) (s .counts) w)
+someLoserFull s w = countsLosers (s .table .rule) && anyBelow 64 (fullLoser (2 ^ s .table .k - 1) (s .waiting) (s .counts) w)
 
 -- The winner stops waiting, its count becomes 0, it leaves the batch, it holds the bus and is the last winner. Under rule 2 every loser's count
 -- grows by 1: losers are the cards that still wait. The lines keep their settled value, and one card less waits.
@@ -75,7 +74,7 @@ abbrev pub oneMore : List Bool → List ℕ → ℕ → ℕ
 oneMore waiting counts a = cond (isIn waiting a) (getD counts a 0 + 1) (getD counts a 0)
 
 unfoldable pub losersCounted : ℕ → List Bool → List ℕ → List ℕ
-losersCounted rule waiting counts = cond (eqb rule 2) (tabulate 64 (oneMore waiting counts)) counts
+losersCounted rule waiting counts = cond (countsLosers rule) (tabulate 64 (oneMore waiting counts)) counts
 
 abbrev pub winnerStopped : RackState → ℕ → List Bool
 winnerStopped s w = set (s .waiting) w false

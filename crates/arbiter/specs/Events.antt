@@ -1,14 +1,16 @@
 -- What a request and a release make of a state, as documents 01 and 02 have it. Assumes nothing.
-use Prim.Native.Nat.{ℕ, _+_}
+use Prim.Native.Nat.{ℕ}
 use mathlib.Core.Bool.{Bool, true, cond, not}
 use mathlib.Core.List.{List}
-use lib.Dec.{ltb, eqb}
+use lib.Dec.{eqb}
 use lib.ListN.{set}
 use Rattle.arbiter.specs.State.{waits, isHolder, wellFormed, withMarks, withSets, withBus}
 use Rattle.arbiter.specs.declared.Bus.the-variants.{Free}
 use Rattle.arbiter.specs.declared.Outcome.{Outcome}
 use Rattle.arbiter.specs.declared.RackState.{RackState}
 use Rattle.cards.specs.Table.{inTable}
+use Rattle.rules.specs.Counts.{oneWaits}
+use Rattle.rules.specs.Rules.{inhibits}
 
 -- an answer with winner, lines and stages 0
 abbrev pub answered : RackState → ℕ → Outcome
@@ -25,10 +27,6 @@ answeredBy n s done = cond (eqb n 0) done (answered s n)
 unfoldable pub requestRefusal : Bool → RackState → ℕ → ℕ
 requestRefusal formed s a = cond (not formed) 17 (cond (not (inTable (s .table .slots) a)) 11 (cond (waits s a) 12 0))
 
--- one card more waits, of at most 64. The bound is for a caller who tells it what is not so: a well-formed state with a card that does not wait is below it.
-abbrev pub oneWaits : ℕ → ℕ
-oneWaits n = cond (ltb n 64) (n + 1) n
-
 abbrev pub requested : RackState → ℕ → RackState
 requested s a = withMarks s (set (s .waiting) a true) (set (s .counts) a 0) (oneWaits (s .waiters))
 
@@ -43,7 +41,7 @@ unfoldable pub releaseRefusal : Bool → RackState → ℕ → ℕ
 releaseRefusal formed s a = cond (not formed) 17 (cond (not (inTable (s .table .slots) a)) 11 (cond (not (isHolder (s .bus) a)) 15 0))
 
 abbrev pub inhibitedBy : ℕ → List Bool → ℕ → List Bool
-inhibitedBy rule inhibited a = cond (eqb rule 4) (set inhibited a true) inhibited
+inhibitedBy rule inhibited a = cond (inhibits rule) (set inhibited a true) inhibited
 
 abbrev pub released : RackState → ℕ → RackState
 released s a = withSets (withBus s (s .last) Free) (s .batch) (inhibitedBy (s .table .rule) (s .inhibited) a)

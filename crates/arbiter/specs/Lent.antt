@@ -11,7 +11,7 @@ use Rattle.arbiter.specs.declared.Outcome.{Outcome}
 use Rattle.arbiter.specs.declared.RackState.{RackState}
 use Rattle.arbiter.specs.declared.Reply.{Reply}
 use Rattle.cards.specs.declared.Table.{Table}
-use Rattle.contest.specs.Marks.{Marks, marks}
+use Rattle.rules.specs.Marks.{Marks, marks}
 
 -- the marks of a state
 abbrev pub marksOf : RackState → Marks

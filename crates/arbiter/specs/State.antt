@@ -10,8 +10,8 @@ use Rattle.arbiter.specs.declared.RackState.{RackState}
 use Rattle.cards.specs.Below.{allBelow, countBelow}
 use Rattle.cards.specs.Table.{hasCard, inTable, tableGood}
 use Rattle.cards.specs.declared.Table.{Table}
-use Rattle.contest.specs.Marks.{isIn}
-use Rattle.contest.specs.Rules.{linesBy}
+use Rattle.rules.specs.Marks.{isIn}
+use Rattle.rules.specs.Rules.{linesBy, countsLosers, hasBatch, inhibits}
 
 -- the card of that number waits
 abbrev pub waits : RackState → ℕ → Bool
@@ -51,12 +51,12 @@ holderOk slots last (Held h) = eqb h last && inTable slots h
 -- the marks that the number a may have: only a card waits; a count is below 2 ^ k, and 0 but for a waiting card under rule 2
 unfoldable pub markFits : Table → ℕ → Bool → ℕ → Bool
 markFits t a waits count =
-    (not waits || hasCard (t .slots) a) && ltb count (2 ^ t .k) && (eqb count 0 || (waits && eqb (t .rule) 2))
+    (not waits || hasCard (t .slots) a) && ltb count (2 ^ t .k) && (eqb count 0 || (waits && countsLosers (t .rule)))
 
 -- the sets that it may be in: only a waiting card under rule 3 is in the batch, and only a card under rule 4 is inhibited
 unfoldable pub setsFit : Table → ℕ → Bool → Bool → Bool → Bool
 setsFit t a waits batched inhibited =
-    (not batched || (waits && eqb (t .rule) 3)) && (not inhibited || (hasCard (t .slots) a && eqb (t .rule) 4))
+    (not batched || (waits && hasBatch (t .rule))) && (not inhibited || (hasCard (t .slots) a && inhibits (t .rule)))
 
 abbrev pub markOk : RackState → ℕ → Bool
 markOk s a = markFits (s .table) a (waits s a) (countOf s a) && setsFit (s .table) a (waits s a) (inBatch s a) (isInhibited s a)

@@ -1,79 +1,24 @@
 // Arbitration: the settling of the competing cards, and the grant.
-ghost use Prim.Native.Nat.{ℕ, _+_, _≤_, _<_};
-ghost use mathlib.Core.Bool.{Bool, true, cond, not};
+ghost use Prim.Native.Nat.{ℕ, _≤_, _<_};
+ghost use mathlib.Core.Bool.{not};
 ghost use mathlib.Core.List.{List};
 ghost use mathlib.Core.Path.{_≡_};
-ghost use lib.ListN.{getD};
-ghost use Rattle.arbiter.specs.Arbitrate.{arbitrated, fullLoser, oneMore, somePreferred, someLoserFull, valueNow, wonBy};
+ghost use Rattle.arbiter.specs.Arbitrate.{arbitrated, somePreferred, valueNow, wonBy};
 ghost use Rattle.arbiter.specs.Lent.{stateOf, tableOf, Leaves};
-ghost use Rattle.arbiter.specs.declared.Hold.{Hold};
 ghost use Rattle.arbiter.specs.declared.RackState.{RackState};
-ghost use Rattle.cards.specs.Below.{anyBelow, tabulate};
-ghost use Rattle.contest.specs.Marks.{isIn, marks};
+ghost use Rattle.rules.specs.Marks.{marks};
 use super::Bus;
 use super::Hold;
 use super::Reply;
 use super::answers::quiet;
-use super::sets::clear_inhibitions;
-use super::sets::renew_batch;
 use contest::settling_of;
 use contest::some_first;
-use contest::span;
 use lines::Settled;
-
-// Whether a loser's count is already `full`.
-pub(crate) fn some_full_loser(full: u8, waiting: &[bool; 64], counts: &[u8; 64], w: u8) -> bool
-    ensures { λ r. ⌜ r ≡ anyBelow 64 (fullLoser full (now (waiting .entry)) (now (counts .entry)) w) ⌝ }
-{
-    let winner = w as usize;
-    let mut some = false;
-    for a in 0..64usize {
-        some = some | ((a != winner) & waiting[a] & (full <= counts[a]));
-    }
-    some
-}
-
-// Under rule 2 alone: refusal 16.
-pub(crate) fn some_loser_full(
-    k: u8,
-    rule: u8,
-    waiting: &[bool; 64],
-    counts: &[u8; 64],
-    w: u8,
-) -> bool
-    requires { ⌜ k ≤ 6 ⌝ }
-    ensures { λ r. ⌜ ((slots : List ℕ) (batch inhibited : List Bool) (hold : Hold)
-        → r ≡ someLoserFull (stateOf (tableOf k rule slots) (marks (now (waiting .entry)) (now (counts .entry)) batch inhibited) hold) w) ⌝ }
-{
-    if rule == 2 {
-        let full = (span(k) - 1) as u8;
-        return some_full_loser(full, waiting, counts, w);
-    }
-    false
-}
-
-// A card's count, one more if the card waits.
-pub(crate) fn one_more(waits: bool, count: u8) -> u8
-    requires { ⌜ (waits ≡ true → count < 255) ⌝ }
-    ensures { λ r. ⌜ r ≡ cond waits (count + 1) count ⌝ }
-{
-    if waits {
-        return count + 1;
-    }
-    count
-}
-
-// The counts, one more for each card that waits.
-pub(crate) fn one_more_each(waiting: &[bool; 64], counts: &[u8; 64]) -> [u8; 64]
-    requires { ⌜ ((a : ℕ) → a < 64 → isIn (now waiting) a ≡ true → getD (now counts) a 0 < 255) ⌝ }
-    ensures { λ r. ⌜ r ≡ tabulate 64 (oneMore (now (waiting .entry)) (now (counts .entry))) ⌝ }
-{
-    let mut next = [0u8; 64];
-    for a in 0..64usize {
-        next[a] = one_more(waiting[a], counts[a]);
-    }
-    next
-}
+use rules::clear_inhibitions;
+use rules::grow_counts;
+use rules::renew_batch;
+use rules::some_loser_full;
+use rules::span;
 
 // The outcome where w wins with these settled lines, on the lent marks: refusal 16, or the grant.
 pub(crate) fn granted_in(
@@ -105,10 +50,7 @@ pub(crate) fn granted_in(
     waiting[i] = false;
     counts[i] = 0;
     batch[i] = false;
-    if rule == 2 {
-        let grown = one_more_each(waiting, counts);
-        *counts = grown;
-    }
+    grow_counts(rule, waiting, counts);
     Reply {
         hold: Hold {
             last: w,

@@ -2,15 +2,15 @@
 // the state is well formed, since events keep it so. Each event is told that, and refuses with 17 where it is told no.
 ghost use mathlib.Core.Path.{_≡_};
 ghost use Rattle.arbiter.specs.Lent.{stateOf, Requests, Releases, Arbitrates};
-ghost use Rattle.contest.specs.Marks.{marks};
-use answers::one_waits;
+ghost use Rattle.rules.specs.Marks.{marks};
+use answers::first_of;
 use answers::quiet;
-use answers::refusal_by;
 use arbitration::arbitrated_in;
 use cards::Table;
 use marks::is_closed;
 use marks::is_holder;
 use marks::waits_at;
+use rules::one_waits;
 use sets::inhibit;
 
 mod answers;
@@ -104,7 +104,7 @@ pub fn request_in(
 {
     let known = cards::in_table(slots, a);
     let waits = waits_at(waiting, a);
-    let refusal = refusal_by(formed, !known, 11, waits, 12);
+    let refusal = first_of(!formed, 17, first_of(!known, 11, first_of(waits, 12, 0)));
     if refusal != 0 {
         return quiet(hold, refusal);
     }
@@ -140,7 +140,7 @@ pub fn release_in(
     let bus = hold.bus;
     let known = cards::in_table(slots, a);
     let holds = is_holder(bus, a);
-    let refusal = refusal_by(formed, !known, 11, !holds, 15);
+    let refusal = first_of(!formed, 17, first_of(!known, 11, first_of(!holds, 15, 0)));
     if refusal != 0 {
         return quiet(hold, refusal);
     }
@@ -173,7 +173,12 @@ pub fn arbitrate_in(
 {
     let bus = hold.bus;
     let closed = is_closed(bus);
-    let refusal = refusal_by(formed & (k <= 6), closed, 13, hold.waiters == 0, 14);
+    let told = formed & (k <= 6);
+    let refusal = first_of(
+        !told,
+        17,
+        first_of(closed, 13, first_of(hold.waiters == 0, 14, 0)),
+    );
     if refusal != 0 {
         return quiet(hold, refusal);
     }

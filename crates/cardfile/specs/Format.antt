@@ -150,13 +150,20 @@ columnsRead d records h =
     refuseUnless (directoryGood d (h .length) (h .columns)) 5
     (columnsFound (columnOf d ANUM (h .columns)) (columnOf d SLOT (h .columns)) records h)
 
+-- the parts that the header names: the directory, and the records to the end of the file
+abbrev pub directoryPart : Header → List ℕ → List ℕ
+directoryPart h file = take (6 * h .columns) (drop (h .directory) file)
+
+abbrev pub recordPart : Header → List ℕ → List ℕ
+recordPart h file = drop (h .records) file
+
 -- 2 to 7
 unfoldable pub headerRead : Header → List ℕ → LoadedTable
 headerRead h file =
     refuseUnless (editionGood h) 2
     (refuseUnless (rangesGood h) 3
     (refuseUnless (layoutGood h (length file)) 4
-    (columnsRead (take (6 * h .columns) (drop (h .directory) file)) (drop (h .records) file) h)))
+    (columnsRead (directoryPart h file) (recordPart h file) h)))
 
 -- 1 to 7: file under 12 or over 8,192 bytes comes first
 unfoldable pub loadTableOf : List ℕ → LoadedTable

@@ -1,32 +1,16 @@
--- Laws of the rules' definitions, which the proofs of the contest cite. Assumes nothing.
-use Prim.Native.Nat.{ℕ, zero, suc, _+_, _-_, _*_, _^_, _≤_, _<_}
+-- Laws of what is shown, which the proofs of the contest cite. Assumes nothing.
+use Prim.Native.Nat.{ℕ, _*_, _≤_, _<_}
 use native.Mathlib.Nat.{mul-le-mul}
 use native.Mathlib.Omega.{arith}
-use mathlib.Core.Bool.{Bool, true, false, cond, not, _&&_, _||_, and-true, true≢false}
+use mathlib.Core.Bool.{Bool, true, false, cond}
 use mathlib.Core.List.{List}
 use mathlib.Core.Logic.{_⊎_, inl, inr}
-use mathlib.Core.Path.{_≡_, refl, sym, _∙_}
-use lib.Dec.{leb, eqb}
-use lib.Pow.{pow-pos, pow-mono}
-use borrow.Author.Tests.{le-leb, lt-leb, ne-eqb}
-use Rattle.cards.proofs.Below.{any-alike, le-or-lt}
-use Rattle.cards.specs.Below.{anyBelow}
-use Rattle.cards.specs.Table.{topNumber}
-use Rattle.contest.specs.Marks.{isIn}
-use Rattle.contest.specs.Rules.{byRule, linesBy, linesGiven, spanOf, numberBy, goesFirst}
-use Rattle.contest.specs.Shown.{firstAt}
+use mathlib.Core.Path.{_≡_, refl, sym}
+use borrow.Author.Tests.{lt-leb}
+use Rattle.cards.proofs.Below.{le-or-lt}
 use Rattle.lines.specs.Settle.{refusal, settledOr}
-
--- a number that is none of the rules'
-pub other-rule : {A : Type 0} (n : ℕ) (x y z b i w : A) → (n ≡ 0 → ⊥) → (n ≡ 1 → ⊥) → (n ≡ 2 → ⊥) → (n ≡ 3 → ⊥) → (n ≡ 4 → ⊥)
-    → byRule n x y z b i w ≡ w
-unfolding byRule
-other-rule zero x y z b i w p q r u v = absurd (p refl)
-other-rule (suc zero) x y z b i w p q r u v = absurd (q refl)
-other-rule (suc (suc zero)) x y z b i w p q r u v = absurd (r refl)
-other-rule (suc (suc (suc zero))) x y z b i w p q r u v = absurd (u refl)
-other-rule (suc (suc (suc (suc zero)))) x y z b i w p q r u v = absurd (v refl)
-other-rule (suc (suc (suc (suc (suc n))))) x y z b i w p q r u v = refl
+use Rattle.rules.proofs.Laws.{other-rule}
+use Rattle.rules.specs.Rules.{linesGiven, numberBy}
 
 -- under which nothing is shown
 pub nothing-shown : (b : Bool) (k rule last count a : ℕ) → (rule ≡ 0 → ⊥) → (rule ≡ 1 → ⊥) → (rule ≡ 2 → ⊥) → (rule ≡ 3 → ⊥) → (rule ≡ 4 → ⊥)
@@ -35,70 +19,9 @@ unfolding numberBy
 nothing-shown true k rule last count a p q r u v = sym (other-rule {A = ℕ} rule _ _ _ _ _ 0 p q r u v)
 nothing-shown false k rule last count a p q r u v = refl
 
--- who goes first, from the two tests of the rule
-pub first-by-tests : (rule : ℕ) (batched inhibited : Bool)
-    → ((not (eqb rule 3) || batched) && (not (eqb rule 4) || not inhibited)) ≡ goesFirst rule batched inhibited
-unfolding goesFirst byRule
-first-by-tests zero batched inhibited = refl
-first-by-tests (suc zero) batched inhibited = refl
-first-by-tests (suc (suc zero)) batched inhibited = refl
-first-by-tests (suc (suc (suc zero))) batched inhibited = and-true batched
-first-by-tests (suc (suc (suc (suc zero)))) batched inhibited = refl
-first-by-tests (suc (suc (suc (suc (suc rule))))) batched inhibited =
-    rw (ne-eqb (suc (suc (suc (suc (suc rule))))) 3 (λ e. omega arith), ne-eqb (suc (suc (suc (suc (suc rule))))) 4 (λ e. omega arith))
-
--- no rule but 3 and 4 lets a card go before another
-pub all-go-first : (rule : ℕ) (batched inhibited : Bool) → (eqb rule 3 || eqb rule 4) ≡ false → true ≡ goesFirst rule batched inhibited
-all-go-first rule batched inhibited neither = go (eqb rule 3) (eqb rule 4) neither ∙ first-by-tests rule batched inhibited
-  where
-    go : (t u : Bool) → (t || u) ≡ false → true ≡ ((not t || batched) && (not u || not inhibited))
-    go false false e = refl
-    go false true e = absurd (true≢false e)
-    go true u e = absurd (true≢false e)
-
-pub some-go-first : (rule : ℕ) (waiting batch inhibited : List Bool) → (eqb rule 3 || eqb rule 4) ≡ false
-    → anyBelow 64 (isIn waiting) ≡ anyBelow 64 (firstAt rule waiting batch inhibited)
-some-go-first rule waiting batch inhibited neither =
-    any-alike 64 (isIn waiting) (firstAt rule waiting batch inhibited)
-    (λ a _. sym (and-true (isIn waiting a)) ∙ rw (all-go-first rule (isIn batch a) (isIn inhibited a) neither))
-
 -- a product of a span and a count
 pub product-small : (x y : ℕ) → x ≤ 64 → y < 256 → x * y ≤ 16320
 product-small x y h l = let l' : y ≤ 255 = omega arith in mul-le-mul h l'
-
--- ---- the width: at most 6, or that of no table
-
-pub lines-given : (k rule : ℕ) → k ≤ 6 → linesGiven k rule ≡ linesBy k rule
-unfolding linesGiven
-lines-given k rule small = rw (le-leb k 6 small)
-
--- never more than 12
-pub lines-most : (k rule : ℕ) → k ≤ 6 → linesBy k rule ≤ 12
-unfolding linesBy byRule
-lines-most k zero small = omega arith
-lines-most k (suc zero) small = omega arith
-lines-most k (suc (suc zero)) small = omega arith
-lines-most k (suc (suc (suc zero))) small = omega arith
-lines-most k (suc (suc (suc (suc zero)))) small = omega arith
-lines-most k (suc (suc (suc (suc (suc rule))))) small = omega arith
-
-pub span-of : (k : ℕ) → k ≤ 6 → spanOf k ≡ 2 ^ k
-unfolding spanOf
-span-of k small = rw (le-leb k 6 small)
-
--- one more than the greatest number
-pub span-top : (k : ℕ) → (topNumber k + 1 ≡ spanOf k) × ((1 ≤ topNumber k + 1) × (topNumber k + 1 ≤ 64))
-unfolding spanOf topNumber
-span-top k = go (le-or-lt k 6)
-  where
-    go : (k ≤ 6) ⊎ (6 < k)
-        → (cond (leb k 6) (2 ^ k - 1) 0 + 1 ≡ cond (leb k 6) (2 ^ k) 1)
-        × ((1 ≤ cond (leb k 6) (2 ^ k - 1) 0 + 1) × (cond (leb k 6) (2 ^ k - 1) 0 + 1 ≤ 64))
-    go (inl small) =
-        let some : 1 ≤ 2 ^ k = pow-pos k in
-        let most : 2 ^ k ≤ 2 ^ 6 = pow-mono small in
-        rw (le-leb k 6 small) (omega arith, (omega arith, omega arith))
-    go (inr wide) = rw (lt-leb k 6 wide) (refl, (omega arith, omega arith))
 
 -- on no lines every list is refused, so that what is shown matters only for a width of at most 6
 pub settled-as-shown : (k rule : ℕ) (numbers shown : List ℕ) (start : ℕ) → (k ≤ 6 → numbers ≡ shown)

@@ -1,3 +1,1 @@
-pub mod Marks
-pub mod Rules
 pub mod Shown

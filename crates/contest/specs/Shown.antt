@@ -4,8 +4,8 @@ use mathlib.Core.Bool.{Bool, cond, _&&_, _||_}
 use mathlib.Core.List.{List}
 use lib.ListN.{getD}
 use Rattle.cards.specs.Below.{tabulate}
-use Rattle.contest.specs.Marks.{isIn, Marks}
-use Rattle.contest.specs.Rules.{linesGiven, numberBy, goesFirst}
+use Rattle.rules.specs.Marks.{isIn, Marks}
+use Rattle.rules.specs.Rules.{linesGiven, numberBy, goesFirst}
 use Rattle.lines.specs.Settle.{refusal, settledOr}
 use Rattle.lines.specs.declared.Settled.{Settled}
 

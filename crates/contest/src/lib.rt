@@ -1,53 +1,18 @@
 // The contest for the bus: who goes first, what each card shows the lines by the rule, and how they settle.
 // What is called for each card takes the numbers that it reads, and not the state, which would be copied each time.
-ghost use Prim.Native.Nat.{_≤_};
 ghost use mathlib.Core.Path.{_≡_};
 ghost use Rattle.cards.specs.Below.{anyBelow};
-ghost use Rattle.contest.specs.Marks.{isIn, marks};
-ghost use Rattle.contest.specs.Rules.{linesGiven, spanOf};
+ghost use Rattle.rules.specs.Marks.{marks};
 ghost use Rattle.contest.specs.Shown.{firstAt, shownSettling};
 use lines::Settled;
 use offers::goes_first;
 use offers::numbers_of;
+use rules::lines_of;
+use rules::span;
 
 mod offers;
 
-// Two to the number width; 1 for a width that no table has, so that a caller need not have checked it.
-pub fn span(k: u8) -> u16
-    ensures { λ r. ⌜ (r ≡ spanOf k) × ((1 ≤ r) × (r ≤ 64)) ⌝ }
-{
-    (cards::top_number(k) as u16) + 1
-}
-
-// How many lines the rule has. A width that no table has gets none, nor does another rule: no settling takes 0 lines.
-pub fn lines_of(k: u8, rule: u8) -> u8
-    ensures { λ r. ⌜ r ≡ linesGiven k rule ⌝ }
-{
-    if 6 < k {
-        return 0;
-    }
-    match rule {
-        0 => k,
-        1 => k + 1,
-        2 => k * 2,
-        3 => k,
-        4 => k,
-        _ => 0,
-    }
-}
-
-// Whether some card is marked.
-fn some_marked(cards: &[bool; 64]) -> bool
-    ensures { λ r. ⌜ r ≡ anyBelow 64 (isIn (now (cards .entry))) ⌝ }
-{
-    let mut some = false;
-    for a in 0..64usize {
-        some = some | cards[a];
-    }
-    some
-}
-
-// Whether some card waits that goes first. Under the rules that have no set all go first, and the caller has just asked whether some card waits.
+// Whether some card waits that goes first. The rule is asked at each card: the loop then has a body for each rule.
 pub fn some_first(
     rule: u8,
     waiting: &[bool; 64],
@@ -56,14 +21,9 @@ pub fn some_first(
 ) -> bool
     ensures { λ r. ⌜ r ≡ anyBelow 64 (firstAt rule (now (waiting .entry)) (now (batch .entry)) (now (inhibited .entry))) ⌝ }
 {
-    let batches = rule == 3;
-    let inhibits = rule == 4;
-    if !(batches | inhibits) {
-        return some_marked(waiting);
-    }
     let mut some = false;
     for a in 0..64usize {
-        some = some | (waiting[a] & goes_first(batches, inhibits, batch[a], inhibited[a]));
+        some = some | (waiting[a] & goes_first(rule, batch[a], inhibited[a]));
     }
     some
 }

@@ -2,17 +2,23 @@
 ghost use Prim.Native.Nat.{ℕ, _^_, _≤_, _<_};
 ghost use mathlib.Core.Bool.{cond, _||_};
 ghost use mathlib.Core.Path.{_≡_};
-ghost use lib.Dec.{eqb};
 ghost use Rattle.cards.specs.Below.{tabulate};
-ghost use Rattle.contest.specs.Marks.{marks};
-ghost use Rattle.contest.specs.Rules.{numberBy, goesFirst};
+ghost use Rattle.rules.specs.Marks.{marks};
+ghost use Rattle.rules.specs.Rules.{numberBy, goesFirst};
 ghost use Rattle.contest.specs.Shown.{shownAt};
 
-// Whether a card goes first: by the batch only a card of it does, by inhibition only one that is not inhibited.
-pub(crate) fn goes_first(batches: bool, inhibits: bool, batched: bool, inhibited: bool) -> bool
-    ensures { λ r. ⌜ ((rule : ℕ) → batches ≡ eqb rule 3 → inhibits ≡ eqb rule 4 → r ≡ goesFirst rule batched inhibited) ⌝ }
+// Whether a card goes first: under rule 3 only a card of the batch does, under rule 4 only one that is not inhibited, under the others each.
+pub(crate) fn goes_first(rule: u8, batched: bool, inhibited: bool) -> bool
+    ensures { λ r. ⌜ r ≡ goesFirst rule batched inhibited ⌝ }
 {
-    (!batches | batched) & (!inhibits | !inhibited)
+    match rule {
+        0 => true,
+        1 => true,
+        2 => true,
+        3 => batched,
+        4 => !inhibited,
+        _ => true,
+    }
 }
 
 // A card that does not compete shows the lines 0, which no line tells from silence: so the list need not be gathered from the cards that do.

@@ -15,11 +15,12 @@ use Rattle.cardfile.specs.Format as format
 use Rattle.cards.specs.Below as below
 use Rattle.cards.specs.Table as table
 use Rattle.cards.specs.declared.Table.{Table}
-use Rattle.contest.specs.Rules as rules
+use Rattle.rules.specs.Rules as rules
 use Rattle.lines.specs.Known.{rowFrom, row, known}
 use Rattle.lines.specs.Settle as settle
 use Rattle.lines.specs.Settling as settling
-use Rattle.promises.specs.Fairness.{AtMost, AtMostOthers, FairShare, Within}
+use Rattle.promises.proofs.Share.{waits-at-grants}
+use Rattle.promises.specs.Fairness.{AtMost, AtMostOthers, FairShare, Within, AtMostLower, OthersWithin, ShareBut, ShareOf}
 use Rattle.examples.specs.KnownRules.{Ruled, ruled, threeCards, settlingIn, played, all-ask, six-again, five-done, knownRules}
 use Rattle.examples.specs.Listing.{line, Q, A, R, replayed, file, listing}
 use Rattle.promises.specs.Runs.{Event, outcomeOf, after, grants, times, timesOthers, cardsOf, WaitsThrough, WaitsAtGrants}
@@ -53,6 +54,23 @@ listing-loads = refl
 pub listing-replayed : replayed (loadOf file .state) listing ≡ listing
 unfolding loading replayed listing line
 listing-replayed = refl
+
+-- ---- the same table in another layout: gaps before and behind the directory, SLOT before ANUM, a column over ANUM that is passed over, records of four
+-- bytes, the cards in another order
+
+pub other-layout : List ℕ
+other-layout =
+    1 ∷ 0 ∷ 3 ∷ 3 ∷ 3 ∷ 1 ∷ 14 ∷ 0 ∷ 35 ∷ 0 ∷ 4 ∷ 0
+    ∷ 7 ∷ 7
+    ∷ 83 ∷ 76 ∷ 79 ∷ 84 ∷ 0 ∷ 1
+    ∷ 84 ∷ 69 ∷ 77 ∷ 80 ∷ 1 ∷ 2
+    ∷ 65 ∷ 78 ∷ 85 ∷ 77 ∷ 2 ∷ 1
+    ∷ 7 ∷ 7 ∷ 7
+    ∷ 3 ∷ 0 ∷ 6 ∷ 0 ∷ 1 ∷ 0 ∷ 2 ∷ 0 ∷ 2 ∷ 0 ∷ 5 ∷ 0 ∷ []
+
+pub other-layout-loads : format.loadTableOf other-layout ≡ format.loadTableOf file
+unfolding loading other-layout
+other-layout-loads = refl
 
 -- ---- the known settlings that name a rule, P8 to P10: playing every row gives the row, and the settlings are the last three of `lines`
 
@@ -129,43 +147,104 @@ within-reached = (
   λ claim. omega (arith, claim (two-cards 2) refl both-ask (A ∷ []) 6 2 (λ _. refl, tt) (λ _. refl, tt)),
 )
 
--- ---- the bounds of two are reached under the rules of rebuilt racks: no smaller bound will do
+-- ---- the bounds of the rules of rebuilt racks are reached, with three cards: each rule has one run, which is computed once, and no smaller bound will do
 
--- under the batch rule the card 2 asks while the card 5 is still in a batch: 5 is granted there, and again in the batch with 2
+three-cards : (rule : ℕ) → cardsOf (freshOf (threeCards rule)) ≡ 3
+unfolding machine threeCards
+three-cards rule = refl
+
+-- under the batch rule the card 2 asks while the card 5 is in a batch: 5 is granted there, and then 6 and 5 in the batch that 2 is in
 pub five-in-batch : List Event
 five-in-batch = Q 5 ∷ Q 6 ∷ A ∷ Q 2 ∷ []
 
-pub five-twice : List Event
-five-twice = R 6 ∷ A ∷ Q 5 ∷ R 5 ∷ A ∷ []
+pub three-others : List Event
+three-others = R 6 ∷ A ∷ Q 5 ∷ Q 6 ∷ R 5 ∷ A ∷ Q 6 ∷ R 6 ∷ A ∷ []
 
-pub batch-reached : (AtMost 1 3 → ⊥) × (Within 1 3 → ⊥)
-unfolding machine threeCards five-in-batch five-twice
-batch-reached = (
-  λ claim. omega (arith, claim (threeCards 3) refl five-in-batch five-twice 2 5 (omega arith) (refl, (refl, (refl, (refl, (refl, tt)))))),
+abbrev batching : RackState
+batching = after (freshOf (threeCards 3)) five-in-batch
+
+pub batch-grants : grants batching three-others ≡ 5 ∷ 6 ∷ 5 ∷ []
+unfolding machine threeCards five-in-batch three-others
+batch-grants = refl
+
+two-batched : WaitsThrough 2 batching three-others
+unfolding machine threeCards five-in-batch three-others
+two-batched = (refl, (refl, (refl, (refl, (refl, (refl, (refl, (refl, (refl, tt)))))))))
+
+five-batched : WaitsAtGrants 5 batching three-others
+unfolding machine threeCards five-in-batch three-others
+five-batched = (λ _. refl, (λ _. refl, (λ none. none, (λ _. refl, (λ _. refl, (λ _. refl, (λ _. refl, (λ _. refl, (λ _. refl, tt)))))))))
+
+-- under the inhibit rule the card 2 waits inhibited: 6 and 5 are granted, and again when the inhibitions have been cleared
+pub two-inhibited : List Event
+two-inhibited = Q 2 ∷ A ∷ R 2 ∷ Q 2 ∷ Q 5 ∷ Q 6 ∷ []
+
+pub four-others : List Event
+four-others = A ∷ R 6 ∷ A ∷ Q 5 ∷ Q 6 ∷ R 5 ∷ A ∷ R 6 ∷ A ∷ []
+
+abbrev inhibiting : RackState
+inhibiting = after (freshOf (threeCards 4)) two-inhibited
+
+pub inhibit-grants : grants inhibiting four-others ≡ 6 ∷ 5 ∷ 6 ∷ 5 ∷ []
+unfolding machine threeCards two-inhibited four-others
+inhibit-grants = refl
+
+two-waits-inhibited : WaitsThrough 2 inhibiting four-others
+unfolding machine threeCards two-inhibited four-others
+two-waits-inhibited = (refl, (refl, (refl, (refl, (refl, (refl, (refl, (refl, (refl, tt)))))))))
+
+five-inhibited : WaitsAtGrants 5 inhibiting four-others
+unfolding machine threeCards two-inhibited four-others
+five-inhibited = (λ _. refl, (λ _. refl, (λ _. refl, (λ none. none, (λ _. refl, (λ _. refl, (λ _. refl, (λ _. refl, (λ _. refl, tt)))))))))
+
+-- two grants to another card, and two more to it than to the waiting card
+pub twice-reached : (AtMost 1 3 → ⊥) × (Within 1 3 → ⊥) × (AtMost 1 4 → ⊥) × (Within 1 4 → ⊥)
+unfolding threeCards times
+twice-reached = (
+  λ claim. omega (arith, rw batch-grants at (claim (threeCards 3) refl five-in-batch three-others 2 5 (omega arith) two-batched)),
   λ claim. omega (
     arith,
-    claim (threeCards 3) refl five-in-batch five-twice 5 2
-        (λ _. refl, (λ _. refl, (λ none. none, (λ _. refl, (λ _. refl, tt)))))
-        (λ _. refl, (λ _. refl, (λ _. refl, (λ _. refl, (λ _. refl, tt))))),
+    rw batch-grants at (claim (threeCards 3) refl five-in-batch three-others 5 2 five-batched (waits-at-grants 2 three-others batching two-batched)),
+  ),
+  λ claim. omega (arith, rw inhibit-grants at (claim (threeCards 4) refl two-inhibited four-others 2 5 (omega arith) two-waits-inhibited)),
+  λ claim. omega (
+    arith,
+    rw inhibit-grants at (claim (threeCards 4) refl two-inhibited four-others 5 2 five-inhibited
+        (waits-at-grants 2 four-others inhibiting two-waits-inhibited)),
   ),
 )
 
--- under the inhibit rule the card 2 waits inhibited: the card 6 is granted, and again when the inhibitions have been cleared
-pub two-inhibited : List Event
-two-inhibited = Q 2 ∷ A ∷ R 2 ∷ Q 2 ∷ Q 6 ∷ []
+-- 2N - 3 grants to others under the batch rule, and none of so many to the waiting card
+pub batch-within-reached : (OthersWithin (λ cards. 2 * cards - 4) 3 → ⊥) × (ShareBut (λ cards. 2 * cards - 4) 3 → ⊥)
+    × (ShareOf (λ cards. 2 * cards - 3) 3 → ⊥)
+unfolding threeCards times timesOthers
+batch-within-reached =
+    let h : WaitsAtGrants 2 batching three-others = waits-at-grants 2 three-others batching two-batched in (
+      λ claim. omega (arith, rw (batch-grants, three-cards 3) at (claim (threeCards 3) refl five-in-batch three-others 2 two-batched)),
+      λ claim. omega (arith, rw (batch-grants, three-cards 3) at (claim (threeCards 3) refl five-in-batch three-others 2 h)),
+      λ claim. omega (arith, rw (batch-grants, three-cards 3) at (claim (threeCards 3) refl five-in-batch three-others 2 h)),
+    )
 
-pub inhibit-reached : (AtMost 1 4 → ⊥) × (Within 1 4 → ⊥)
-    × (timesOthers 2 (grants (after (freshOf (two-cards 4)) two-inhibited) six-twice) ≡ 2 * (cardsOf (freshOf (two-cards 4)) - 1))
-unfolding machine two-cards two-inhibited six-twice
-inhibit-reached = (
-  λ claim. omega (arith, claim (two-cards 4) refl two-inhibited six-twice 2 6 (omega arith) (refl, (refl, (refl, (refl, tt))))),
-  λ claim. omega (
-    arith,
-    claim (two-cards 4) refl two-inhibited six-twice 6 2
-        (λ _. refl, (λ none. none, (λ none. none, (λ _. refl, tt))))
-        (λ _. refl, (λ _. refl, (λ _. refl, (λ _. refl, tt)))),
-  ),
-  refl,
+-- 2(N - 1) under the inhibit rule
+pub inhibit-within-reached : (OthersWithin (λ cards. 2 * cards - 3) 4 → ⊥) × (ShareBut (λ cards. 2 * cards - 3) 4 → ⊥)
+    × (ShareOf (λ cards. 2 * cards - 2) 4 → ⊥)
+unfolding threeCards times timesOthers
+inhibit-within-reached =
+    let h : WaitsAtGrants 2 inhibiting four-others = waits-at-grants 2 four-others inhibiting two-waits-inhibited in (
+      λ claim. omega (arith, rw (inhibit-grants, three-cards 4) at (claim (threeCards 4) refl two-inhibited four-others 2 two-waits-inhibited)),
+      λ claim. omega (arith, rw (inhibit-grants, three-cards 4) at (claim (threeCards 4) refl two-inhibited four-others 2 h)),
+      λ claim. omega (arith, rw (inhibit-grants, three-cards 4) at (claim (threeCards 4) refl two-inhibited four-others 2 h)),
+    )
+
+-- one grant to a card with a lower number: 6 asks again while it holds the bus, and is in no batch, or inhibited, when 2 is granted
+pub six-asks-again : List Event
+six-asks-again = Q 2 ∷ Q 6 ∷ A ∷ Q 6 ∷ []
+
+pub lower-reached : (AtMostLower 0 3 → ⊥) × (AtMostLower 0 4 → ⊥)
+unfolding machine two-cards six-asks-again
+lower-reached = (
+  λ claim. omega (arith, claim (two-cards 3) refl six-asks-again (R 6 ∷ A ∷ []) 6 2 (omega arith) (refl, (refl, tt))),
+  λ claim. omega (arith, claim (two-cards 4) refl six-asks-again (R 6 ∷ A ∷ []) 6 2 (omega arith) (refl, (refl, tt))),
 )
 
 -- ---- the bound on waiting counts is reached: at P10 the card 2 of the three has seen both others granted, and no smaller bound will do
@@ -174,12 +253,8 @@ seen-two : countOf (after (freshOf (threeCards 2)) five-done) 2 ≡ 2
 unfolding machine threeCards five-done six-again all-ask
 seen-two = refl
 
-three-cards : cardsOf (freshOf (threeCards 2)) ≡ 3
-unfolding machine threeCards
-three-cards = refl
-
 pub counts-reached : countOf (after (freshOf (threeCards 2)) five-done) 2 ≡ cardsOf (freshOf (threeCards 2)) - 1
-counts-reached = omega (arith, seen-two, three-cards)
+counts-reached = omega (arith, seen-two, three-cards 2)
 
 -- refusal 16 is there: a well-formed state that no run comes to, since both cards' counts are 7, has it at an arbitration
 pub both-full : RackState

@@ -1,3 +1,4 @@
 pub mod Pairs
 pub mod Settle
 pub mod TableBytes
+pub mod Determined

@@ -23,6 +23,11 @@ words-at (low ∷ []) i less = absurd (omega arith)
 words-at (low ∷ high ∷ rest) zero less = refl
 words-at (low ∷ high ∷ rest) (suc i) less = rw double (words-at rest i (omega arith))
 
+pub bytes-length : (xs : List ℕ) → length (bytes xs) ≡ 2 * length xs
+unfolding bytes
+bytes-length [] = refl
+bytes-length (x ∷ xs) = omega (arith, bytes-length xs)
+
 -- one number more, behind those that the buffer's front holds
 pub put-next : (xs buffer : List ℕ) (x : ℕ) → 2 * suc (length xs) ≤ length buffer
     → set (set (bytes xs ++ drop (2 * length xs) buffer) (2 * length xs) (x % 256)) (suc (2 * length xs)) (x / 256 % 256)

@@ -14,3 +14,4 @@ pub mod Runs
 pub mod Intervals
 pub mod Silent
 pub mod Smear
+pub mod Determined

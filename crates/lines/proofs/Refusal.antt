@@ -58,7 +58,7 @@ unfolding greatest
 zeros-greatest zero = refl
 zeros-greatest (suc count) = omega (arith, zeros-greatest count)
 
-at-most : (m rest : ℕ) → cond (eqb m 0 || ltb 12 m) 21 rest ≡ 0 → m ≤ 12
+pub at-most : (m rest : ℕ) → cond (eqb m 0 || ltb 12 m) 21 rest ≡ 0 → m ≤ 12
 at-most m rest e = ltb-false 12 m (neither (eqb m 0) (ltb 12 m) (passed (eqb m 0 || ltb 12 m) 20 rest e) .1)
 
 -- 2 ^ m as the code works it out, in 16 bits

@@ -1,59 +1,57 @@
--- Demand 3 for the round-robin and the arrival rule, and what stands in its place for the batch and the inhibit rule. Assumes nothing.
-use Prim.Native.Nat.{ℕ, zero, suc, _+_, _≤_}
+-- Demand 3 for the round-robin and the arrival rule, and what stands in its place for the batch and the inhibit rule, with their least bounds.
+-- Each field is proved from what its law says, by arithmetic. Assumes nothing.
+use Prim.Native.Nat.{ℕ, zero, suc, _+_, _-_, _*_, _/_, _≤_, _<_}
+use native.Mathlib.Nat.{zero-div}
 use native.Mathlib.Omega.{arith}
-use mathlib.Core.List.{List}
+use mathlib.Core.List.{List, []}
 use mathlib.Core.Logic.{_⊎_, inl, inr, _≢_}
-use mathlib.Core.Path.{_≡_, refl, ap}
+use mathlib.Core.Path.{_≡_, refl}
+use lib.ListN.{length}
 use Rattle.arbiter.proofs.Open.{BatchRule}
 use Rattle.arbiter.proofs.Winner.{FairRule}
 use Rattle.arbiter.specs.State.{freshOf}
 use Rattle.arbiter.specs.declared.RackState.{RackState}
-use Rattle.cards.proofs.Below.{same-or-not}
-use Rattle.cards.specs.Table.{cardCount}
-use Rattle.cards.specs.declared.Table.{Table}
-use Rattle.promises.proofs.Potentials.{fair-potential, batch-potential}
-use Rattle.promises.proofs.Share.{share, others}
-use Rattle.promises.proofs.Turns.{Potential, bounded, ahead, same-table}
-use Rattle.promises.specs.Fairness.{AtMost, AtMostOthers, Within, Fair, FairRules, FairByTwo, BatchRules}
-use Rattle.promises.specs.Runs.{Event, after, grants, times, cardsOf}
+use Rattle.promises.proofs.Batches.{batch-potential, lower-once}
+use Rattle.promises.proofs.Limits.{same-cards, rules-after, at-most, within, Limited, each-limited, others-within, share-but, share-of}
+use Rattle.promises.proofs.Potentials.{fair-potential}
+use Rattle.promises.proofs.Share.{no-grant-or-card}
+use Rattle.promises.proofs.Topped.{batch-limited}
+use Rattle.promises.proofs.Turns.{bounded-by}
+use Rattle.promises.specs.Fairness.{OthersWithin, ShareOf, Fair, FairRules, FairByTwo, BatchRules, AtMostLower, FairWithin, BatchWithin, InhibitWithin}
+use Rattle.promises.specs.Runs.{after, grants, times, cardsOf}
 
--- the events before leave the rule and the cards as they were
-rules-after : (rules : ℕ → Type 0) (t : Table) (rule : ℕ) → t .rule ≡ rule → (before : List Event) → rules rule
-    → rules (after (freshOf t) before .table .rule)
-rules-after rules t rule e before r = rw (same-table (freshOf t) before, e) r
+-- ---- round-robin and arrival
 
-same-cards : (t : Table) (before : List Event) → cardsOf (after (freshOf t) before) ≡ cardsOf (freshOf t)
-same-cards t before = ap (λ (u : Table). cardCount (u .slots) 64) (same-table (freshOf t) before)
+-- one of each 1 * (N - 1) + 1 grants is one of each N: where there is a grant there is a card
+fair-share : (rule : ℕ) → FairRule rule → ShareOf (λ cards. cards) rule
+fair-share rule r t e before during card h = go (no-grant-or-card card during s h)
+  where
+    s : RackState
+    s = after (freshOf t) before
 
--- what a potential of at most n gives
-module _ (rules : ℕ → Type 0) (n : ℕ) (potential : (a b : ℕ) → a ≢ b → Potential rules n a b) (rule : ℕ) (r : rules rule) where
-  at-most : AtMost n rule
-  at-most t e before during waiter other d h =
-      bounded waiter other d (potential waiter other d) during (after (freshOf t) before) (rules-after rules t rule e before r) h
+    l : List ℕ
+    l = grants s during
 
-  at-most-others : AtMostOthers n rule
-  at-most-others t e before during waiter h =
-      rw (← same-cards t before) (others waiter n during (after (freshOf t) before) (λ other d. at-most t e before during waiter other d h) h)
+    N : ℕ
+    N = cardsOf (freshOf t)
 
-  within : Within n rule
-  within t e before during one two h₁ h₂ = go (same-or-not two one)
-    where
-      s : RackState
-      s = after (freshOf t) before
+    go : (l ≡ []) ⊎ (0 < cardsOf s) → length l / N ≤ times card l
+    go (inl none) = rw (none, zero-div N) (omega arith)
+    go (inr some) =
+        let parts : 1 * (N - 1) + 1 ≡ N = omega (arith, rw (same-cards t before) at some) in
+        rw parts at (share-of FairRule 1 fair-potential rule r (λ cards. 1 * (cards - 1)) (each-limited FairRule 1 fair-potential rule r)
+        (λ cards. omega arith) t e before during card h)
 
-      go : (two ≡ one) ⊎ (two ≢ one) → times one (grants s during) ≤ times two (grants s during) + n
-      go (inl p) = rw p (omega arith)
-      go (inr d) = ahead two one d (potential two one d) during s (rules-after rules t rule e before r) h₂
-
--- each field from what its law says, by arithmetic
 module _ (rule : ℕ) (r : FairRule rule) where
+  others : OthersWithin (λ cards. 1 * (cards - 1)) rule
+  others = others-within FairRule 1 fair-potential rule r (λ cards. 1 * (cards - 1)) (each-limited FairRule 1 fair-potential rule r)
+
   fair : Fair rule
   fair =
       record {
         at-most-once = λ t e before during waiter other d h. omega (arith, at-most FairRule 1 fair-potential rule r t e before during waiter other d h);
-        at-most-others = λ t e before during waiter h. omega (arith, at-most-others FairRule 1 fair-potential rule r t e before during waiter h);
-        fair-share = λ t e before during card h.
-            omega (arith, rw same-cards at (share card during (after (freshOf t) before) (rules-after FairRule t rule e before r) h));
+        at-most-others = λ t e before during waiter h. omega (arith, others t e before during waiter h);
+        fair-share = λ t e before during card h. omega (arith, fair-share rule r t e before during card h);
         within-one = λ t e before during one two h₁ h₂. omega (arith, within FairRule 1 fair-potential rule r t e before during one two h₁ h₂);
       }
 
@@ -69,13 +67,43 @@ round-robin-fair = fair-rules 1 (omega arith) (omega arith)
 pub arrival-fair : Fair 2
 arrival-fair = fair-rules 2 (omega arith) (omega arith)
 
-fair-by-two : (rule : ℕ) → BatchRule rule → FairByTwo rule
-fair-by-two rule r =
-    record {
-      at-most-twice = λ t e before during waiter other d h. omega (arith, at-most BatchRule 2 batch-potential rule r t e before during waiter other d h);
-      at-most-others = λ t e before during waiter h. omega (arith, at-most-others BatchRule 2 batch-potential rule r t e before during waiter h);
-      within-two = λ t e before during one two h₁ h₂. omega (arith, within BatchRule 2 batch-potential rule r t e before during one two h₁ h₂);
-    }
+-- ---- batch and inhibit
+
+module _ (rule : ℕ) (r : BatchRule rule) where
+  twice-each : Limited BatchRule 2 batch-potential rule r (λ cards. 2 * (cards - 1))
+  twice-each = each-limited BatchRule 2 batch-potential rule r
+
+  others-twice : OthersWithin (λ cards. 2 * (cards - 1)) rule
+  others-twice = others-within BatchRule 2 batch-potential rule r (λ cards. 2 * (cards - 1)) twice-each
+
+  fair-by-two : FairByTwo rule
+  fair-by-two =
+      record {
+        at-most-twice = λ t e before during waiter other d h. omega (arith, at-most BatchRule 2 batch-potential rule r t e before during waiter other d h);
+        at-most-others = λ t e before during waiter h. omega (arith, others-twice t e before during waiter h);
+        within-two = λ t e before during one two h₁ h₂. omega (arith, within BatchRule 2 batch-potential rule r t e before during one two h₁ h₂);
+      }
+
+  lower-at-most : AtMostLower 1 rule
+  lower-at-most t e before during waiter lower l h =
+      let s : RackState = after (freshOf t) before in
+      let d : waiter ≢ lower = λ p. omega arith in
+      omega (
+        arith,
+        bounded-by waiter lower d (batch-potential waiter lower d) during s (rules-after BatchRule 2 batch-potential rule r t e before) h,
+        lower-once waiter lower d s (omega arith),
+      )
+
+  -- where the others together are limited by `most`
+  module _ (most : ℕ → ℕ) (limited : Limited BatchRule 2 batch-potential rule r most) (wide : (cards : ℕ) → cards ≤ most cards + 1) where
+    fair-within : FairWithin most rule
+    fair-within =
+        record {
+          lower-once = λ t e before during waiter lower l h. omega (arith, lower-at-most t e before during waiter lower l h);
+          others-within = λ t e before during waiter h. omega (arith, others-within BatchRule 2 batch-potential rule r most limited t e before during waiter h);
+          share-but = λ t e before during card h. omega (arith, share-but BatchRule 2 batch-potential rule r most limited t e before during card h);
+          share-of = λ t e before during card h. omega (arith, share-of BatchRule 2 batch-potential rule r most limited wide t e before during card h);
+        }
 
 pub batch-rules : BatchRules
 batch-rules zero low high = absurd (omega arith)
@@ -90,3 +118,12 @@ batch-fair-by-two = batch-rules 3 (omega arith) (omega arith)
 
 pub inhibit-fair-by-two : FairByTwo 4
 inhibit-fair-by-two = batch-rules 4 (omega arith) (omega arith)
+
+pub batch-within : BatchWithin
+batch-within =
+    fair-within 3 (inl refl) _ (λ t e before during a c h turns. omega (arith, batch-limited t e before during a c h turns)) (λ cards. omega arith)
+
+pub inhibit-within : InhibitWithin
+inhibit-within =
+    fair-within 4 (inr refl) _ (λ t e before during a c h turns. omega (arith, twice-each 4 (inr refl) t e before during a c h turns))
+    (λ cards. omega arith)

@@ -1,10 +1,14 @@
--- The demands proved: fairness (Sums to Fairness), states, waiting counts (OthersLeft, Counts), the round trip of a table, the most stages, the waiting
--- report, and that every contract admits one result.
+-- The demands proved: fairness (Sums to Fairness) and the same of a listing, states, waiting counts (OthersLeft, Counts), the round trip of a table, the
+-- most stages, the waiting report, and lent memory.
 pub mod Sums
 pub mod Turns
 pub mod Potentials
+pub mod Batches
 pub mod Share
+pub mod Limits
+pub mod Topped
 pub mod Fairness
+pub mod Listing
 pub mod States
 pub mod OthersLeft
 pub mod Counts
@@ -12,4 +16,4 @@ pub mod RoundTrip
 pub mod Settling
 pub mod Slowest
 pub mod WaitingReport
-pub mod Determined
+pub mod Buffers

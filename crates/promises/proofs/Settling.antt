@@ -17,12 +17,12 @@ use Rattle.arbiter.specs.declared.RackState.{RackState}
 use Rattle.lines.proofs.Intervals.{stages-intervals, stages-any, stages-topped, stages-nobody}
 use Rattle.lines.proofs.Promises.{greatest-in}
 use Rattle.lines.proofs.Refusal.{zeros-greatest}
-use Rattle.lines.proofs.Stages.{stages-le, settled-greatest}
-use Rattle.lines.specs.Greatest.{greatest}
+use Rattle.lines.proofs.Stages.{stages-le, stages-least, least-unique, settled-greatest}
+use Rattle.lines.specs.Greatest.{greatest, IsLeast}
 use Rattle.lines.specs.Intervals.{intervalNumber}
 use Rattle.lines.specs.Line.{line}
 use Rattle.lines.specs.Settling.{stages}
-use Rattle.promises.specs.Settling.{AllBelow, SettledAlike, StagesWithin, StagesFromAny, NobodyWithin, ArbitrationWithin}
+use Rattle.promises.specs.Settling.{AllBelow, SettledAlike, StagesWithin, StagesFromAny, LeastWithin, LeastFromAny, NobodyWithin, LeastNobody, ArbitrationWithin}
 
 greatest-below : (m : ℕ) (numbers : List ℕ) → AllBelow m numbers → greatest numbers < 2 ^ m
 unfolding greatest
@@ -56,6 +56,23 @@ nobody-within m start small =
     let zeros : (count : ℕ) → stages m (replicate count 0) start ≤ 1 =
     λ count. stages-nobody m (replicate count 0) (rw zeros-greatest (pow-pos m)) start small (zeros-greatest count) in
     (omega (arith, zeros 0), λ count. omega (arith, zeros count))
+
+-- ---- the least stage after which no line changes
+
+-- it is `stages`
+least-is : (m : ℕ) (numbers : List ℕ) (start t : ℕ) → AllBelow m numbers → start < 2 ^ m → IsLeast m numbers start t → t ≡ stages m numbers start
+least-is m numbers start t below small least =
+    least-unique m numbers start t (stages m numbers start) least (stages-least m numbers start (greatest-below m numbers below) small)
+
+pub least-within : LeastWithin
+least-within m numbers t some below least = rw (least-is m numbers 0 t below (pow-pos m) least) (stages-within m numbers some below)
+
+pub least-from-any : LeastFromAny
+least-from-any m numbers start t below small least = rw (least-is m numbers start t below small least) (stages-from-any m numbers start below small)
+
+pub least-nobody : LeastNobody
+least-nobody m start t small least =
+    rw (least-is m [] start t (λ i none. absurd (omega arith)) small least) (nobody-within m start small .0)
 
 -- ---- an arbitration
 

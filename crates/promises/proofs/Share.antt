@@ -1,7 +1,7 @@
 -- The grants of a run, summed over the cards of the table: the share of a card that waits at every grant, and the grants that go to others while a
 -- card waits. Assumes nothing.
-use Prim.Native.Nat.{ℕ, zero, suc, _+_, _-_, _*_, _/_, _≤_, _<_}
-use native.Mathlib.Nat.{not-suc-le-zero, mul-zero, mul-suc, zero-div, div-lt-iff-lt-mul}
+use Prim.Native.Nat.{ℕ, zero, suc, _+_, _-_, _*_, _/_, _≤_, _<_, zero-le}
+use native.Mathlib.Nat.{mul-suc, mul-le-mul-right, div-lt-iff-lt-mul}
 use native.Mathlib.Omega.{arith}
 use mathlib.Core.Bool.{Bool, true, false, cond, true≢false}
 use mathlib.Core.List.{List, [], _∷_, _++_}
@@ -12,16 +12,14 @@ use lib.ListN.{length}
 use borrow.Author.Tests.{eq-eqb, ne-eqb, lt-ltb}
 use Rattle.arbiter.proofs.Formed.{waiting-below, waiting-card}
 use Rattle.arbiter.proofs.Seen.{Seen, quiet, grant}
-use Rattle.arbiter.proofs.Winner.{FairRule}
 use Rattle.arbiter.specs.State.{waits, isCard}
 use Rattle.arbiter.specs.declared.RackState.{RackState}
 use Rattle.cards.proofs.Below.{same-or-not}
 use Rattle.cards.specs.Below.{sumBelow}
 use Rattle.cards.specs.Table.{hasCard}
 use Rattle.cards.specs.declared.Table.{Table}
-use Rattle.promises.proofs.Potentials.{fair-potential}
 use Rattle.promises.proofs.Sums.{sum-zero, sum-add, sum-one, sum-scale, sum-le, sum-lt}
-use Rattle.promises.proofs.Turns.{seen-event, same-table-after, ahead}
+use Rattle.promises.proofs.Turns.{seen-event, same-table-after}
 use Rattle.promises.specs.Runs.{Event, outcomeOf, next, winner, isGrant, grants, times, timesOthers, cardsOf, WaitsThrough, WaitsAtGrants}
 
 -- ---- a list of cards
@@ -44,7 +42,7 @@ times-other {test = test} (more {x} h t all) n f =
     rw (ne-eqb x n (λ p. true≢false (sym t ∙ ap test p ∙ f)), times-other all n f)
 
 -- a number of the list is a or another
-times-others : (a : ℕ) (l : List ℕ) → timesOthers a l + times a l ≡ length l
+pub times-others : (a : ℕ) (l : List ℕ) → timesOthers a l + times a l ≡ length l
 unfolding times timesOthers
 times-others a [] = refl
 times-others a (x ∷ l) = go (eqb x a) (times-others a l)
@@ -92,77 +90,113 @@ module _ (a : ℕ) where
           let t : waits s a ≡ true = h .0 (lt-ltb 0 (winner s e) (won .positive)) in
           inr (waiting-below s (won .formed) a t, waiting-card s (won .formed) a t)
 
-  -- ---- the share
-
-  positive : (x y N : ℕ) → x < y * N → 0 < N
-  positive x y zero h = absurd (not-suc-le-zero (rw (mul-zero y) at h))
-  positive x y (suc N) h = omega arith
-
-  pub share : (es : List Event) (s : RackState) → FairRule (s .table .rule) → WaitsAtGrants a s es
-      → length (grants s es) / cardsOf s ≤ times a (grants s es)
-  share es s r h = go (waiter-card es s h)
+  -- and then the table has a card
+  pub no-grant-or-card : (es : List Event) (s : RackState) → WaitsAtGrants a s es → (grants s es ≡ []) ⊎ (0 < cardsOf s)
+  no-grant-or-card es s h = go (waiter-card es s h)
     where
-      l : List ℕ
-      l = grants s es
-
-      c : ℕ
-      c = times a l
-
-      within : (n : ℕ) (t : Bool) → isCard s n ≡ t → (a ≡ n) ⊎ (a ≢ n) → times n l ≤ cond t (c + 1) 0
-      within n true e (inl p) = rw (← p) (omega arith)
-      within n true e (inr q) = ahead a n q (fair-potential a n q) es s r h
-      within n false e _ = rw (times-other (cards-only es s) n e) (omega arith)
-
-      total : (a < 64) × (isCard s a ≡ true) → length l < (c + 1) * cardsOf s
-      total k =
-          rw (← sum-times (cards-only es s), ← sum-scale 64 (c + 1) (isCard s))
-          (sum-lt 64 a (λ n. times n l) (λ n. cond (isCard s n) (c + 1) 0)
-          (λ n _. within n (isCard s n) refl (same-or-not a n)) (rw (k .1) (omega arith)) (k .0))
-
-      go : (grants s es ≡ []) ⊎ ((a < 64) × (isCard s a ≡ true)) → length l / cardsOf s ≤ times a l
-      go (inl p) = rw (p, zero-div (cardsOf s)) (omega arith)
-      go (inr k) = omega (arith, div-lt-iff-lt-mul (positive (length l) (c + 1) (cardsOf s) (total k)) .1 (total k))
+      go : (grants s es ≡ []) ⊎ ((a < 64) × (isCard s a ≡ true)) → (grants s es ≡ []) ⊎ (0 < cardsOf s)
+      go (inl p) = inl p
+      go (inr k) =
+          inr (omega (
+            arith,
+            sum-zero 64,
+            sum-lt 64 a (λ n. 0) (λ n. cond (isCard s n) 1 0) (λ n _. zero-le) (rw (k .1) (omega arith)) (k .0),
+          ))
 
   -- ---- the others
 
-  waits-at-grants : (es : List Event) (s : RackState) → WaitsThrough a s es → WaitsAtGrants a s es
+  pub waits-at-grants : (es : List Event) (s : RackState) → WaitsThrough a s es → WaitsAtGrants a s es
   unfolding WaitsThrough WaitsAtGrants
   waits-at-grants [] s h = tt
   waits-at-grants (e ∷ es) s h = (λ _. h .0, waits-at-grants es (next s e) (h .1))
 
-  -- where each other card is granted at most k times, the others together are granted at most k times for each card but a
-  pub others : (k : ℕ) (es : List Event) (s : RackState) → ((b : ℕ) → a ≢ b → times b (grants s es) ≤ k) → WaitsThrough a s es
-      → timesOthers a (grants s es) ≤ k * (cardsOf s - 1)
-  others k es s most h = go (waiter-card es s (waits-at-grants es s h))
+  only-a : a < 64 → (x : ℕ) → sumBelow 64 (λ n. cond (eqb a n) x 0) ≡ x
+  only-a below x = sum-scale 64 x (eqb a) ∙ rw (sum-one 64 a below) (omega arith)
+
+  -- where each other card is granted at most k times
+  module _ (k : ℕ) (es : List Event) (s : RackState) (most : (b : ℕ) → a ≢ b → times b (grants s es) ≤ k) (h : WaitsAtGrants a s es) where
+    l : List ℕ
+    l = grants s es
+
+    c : ℕ
+    c = times a l
+
+    given : ℕ → ℕ
+    given n = times n l + cond (eqb a n) k 0
+
+    room : ℕ → ℕ
+    room n = cond (eqb a n) c 0 + cond (isCard s n) k 0
+
+    given-room : isCard s a ≡ true → (n : ℕ) → given n ≤ room n
+    unfolding given room c l
+    given-room card n = go (isCard s n) refl (same-or-not a n)
+      where
+        go : (t : Bool) → isCard s n ≡ t → (a ≡ n) ⊎ (a ≢ n) → times n l + cond (eqb a n) k 0 ≤ cond (eqb a n) c 0 + cond t k 0
+        go true e (inl p) = rw (← p, eq-eqb a a refl) (omega arith)
+        go true e (inr q) = rw (ne-eqb a n q) (omega (arith, most n q))
+        go false e (inl p) = absurd (true≢false (sym card ∙ ap (isCard s) p ∙ e))
+        go false e (inr q) = rw (ne-eqb a n q, times-other (cards-only es s) n e) (omega arith)
+
+    all-given : a < 64 → sumBelow 64 given ≡ length l + k
+    unfolding given l
+    all-given below = sum-add 64 (λ n. times n l) (λ n. cond (eqb a n) k 0) ∙ rw (sum-times (cards-only es s), only-a below k)
+
+    all-room : a < 64 → sumBelow 64 room ≡ c + k * cardsOf s
+    unfolding room
+    all-room below = sum-add 64 (λ n. cond (eqb a n) c 0) (λ n. cond (isCard s n) k 0) ∙ rw (only-a below c, sum-scale 64 k (isCard s))
+
+    -- the others together are granted at most k times for each card but a
+    pub others : timesOthers a (grants s es) ≤ k * (cardsOf s - 1)
+    unfolding c l
+    others = go (waiter-card es s h)
+      where
+        go : (grants s es ≡ []) ⊎ ((a < 64) × (isCard s a ≡ true)) → timesOthers a l ≤ k * (cardsOf s - 1)
+        go (inl p) = omega (arith, times-others a l, ap length p)
+        go (inr card) =
+            rw (mul-sub-one k (cardsOf s)) (omega (
+              arith,
+              times-others a l,
+              all-given (card .0),
+              all-room (card .0),
+              sum-le 64 given room (λ n _. given-room (card .1) n),
+            ))
+
+    -- and fewer, where one of those cards is granted fewer
+    pub others-fewer : (d : ℕ) → d < 64 → isCard s d ≡ true → a ≢ d → times d (grants s es) < k → timesOthers a (grants s es) ≤ k * (cardsOf s - 1) - 1
+    unfolding c l given room
+    others-fewer d d-below d-card a≢d fewer = go (waiter-card es s h)
+      where
+        go : (grants s es ≡ []) ⊎ ((a < 64) × (isCard s a ≡ true)) → timesOthers a l ≤ k * (cardsOf s - 1) - 1
+        go (inl p) = omega (arith, times-others a l, ap length p)
+        go (inr card) =
+            rw (mul-sub-one k (cardsOf s)) (omega (
+              arith,
+              times-others a l,
+              all-given (card .0),
+              all-room (card .0),
+              sum-lt 64 d given room (λ n _. given-room (card .1) n) (rw (ne-eqb a d a≢d, d-card) (omega arith)) d-below,
+            ))
+
+-- ---- the share, from what goes to the others
+
+-- where each other card has as many grants as a, and m more are left for them together
+module _ (a : ℕ) (es : List Event) (s : RackState) (h : WaitsAtGrants a s es) (m : ℕ)
+    (few : timesOthers a (grants s es) ≤ times a (grants s es) * (cardsOf s - 1) + m) where
+  with-own : (o c n : ℕ) → 0 < n → o ≤ c * (n - 1) + m → o + c ≤ n * c + m
+  with-own o c zero some less = absurd (omega arith)
+  with-own o c (suc n) some less =
+      let before : suc n - 1 ≡ n = omega arith in
+      omega (arith, rw before at less)
+
+  pub total-but : length (grants s es) ≤ cardsOf s * times a (grants s es) + m
+  total-but = go (no-grant-or-card a es s h)
     where
-      l : List ℕ
-      l = grants s es
+      go : (grants s es ≡ []) ⊎ (0 < cardsOf s) → length (grants s es) ≤ cardsOf s * times a (grants s es) + m
+      go (inl p) = rw p (omega arith)
+      go (inr some) = omega (arith, times-others a (grants s es), with-own _ _ (cardsOf s) some few)
 
-      c : ℕ
-      c = times a l
-
-      within : isCard s a ≡ true → (n : ℕ) (t : Bool) → isCard s n ≡ t → (a ≡ n) ⊎ (a ≢ n)
-          → times n l + cond (eqb a n) k 0 ≤ cond (eqb a n) c 0 + cond t k 0
-      within card n true e (inl p) = rw (← p, eq-eqb a a refl) (omega arith)
-      within card n true e (inr q) = rw (ne-eqb a n q) (omega (arith, most n q))
-      within card n false e (inl p) = absurd (true≢false (sym card ∙ ap (isCard s) p ∙ e))
-      within card n false e (inr q) = rw (ne-eqb a n q, times-other (cards-only es s) n e) (omega arith)
-
-      only-a : a < 64 → (x : ℕ) → sumBelow 64 (λ n. cond (eqb a n) x 0) ≡ x
-      only-a below x = sum-scale 64 x (eqb a) ∙ rw (sum-one 64 a below) (omega arith)
-
-      go : (grants s es ≡ []) ⊎ ((a < 64) × (isCard s a ≡ true)) → timesOthers a l ≤ k * (cardsOf s - 1)
-      go (inl p) = omega (arith, times-others a l, ap length p)
-      go (inr card) =
-          rw (mul-sub-one k (cardsOf s)) (omega (
-            arith,
-            times-others a l,
-            sum-times (cards-only es s),
-            only-a (card .0) k,
-            only-a (card .0) c,
-            sum-scale 64 k (isCard s),
-            sum-add 64 (λ n. times n l) (λ n. cond (eqb a n) k 0),
-            sum-add 64 (λ n. cond (eqb a n) c 0) (λ n. cond (isCard s n) k 0),
-            sum-le 64 (λ n. times n l + cond (eqb a n) k 0) (λ n. cond (eqb a n) c 0 + cond (isCard s n) k 0)
-                (λ n _. within (card .1) n (isCard s n) refl (same-or-not a n)),
-          ))
+  pub part-of : cardsOf s ≤ m + 1 → length (grants s es) / (m + 1) ≤ times a (grants s es)
+  part-of wide =
+      let c : ℕ = times a (grants s es) in
+      let less : length (grants s es) < (c + 1) * (m + 1) = omega (arith, total-but, mul-le-mul-right c wide) in
+      omega (arith, div-lt-iff-lt-mul {k = m + 1} {x = length (grants s es)} {y = c + 1} (omega arith) .1 less)

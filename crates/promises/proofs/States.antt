@@ -34,18 +34,18 @@ loads-well-formed file done = fresh-well-formed (loadOf file .state .table) (loa
 -- ---- a refused event
 
 -- a refused outcome is the refusal alone
-abbrev Kept : RackState → Outcome → Type 0
+abbrev pub Kept : RackState → Outcome → Type 0
 Kept s o = o .answer ≢ 0 → o ≡ answered s (o .answer)
 
 either : {s : RackState} (t : Bool) {x y : Outcome} → Kept s x → Kept s y → Kept s (cond t x y)
 either true f g = f
 either false f g = g
 
-kept-by : (s : RackState) (n : ℕ) (o : Outcome) → Kept s o → Kept s (answeredBy n s o)
+pub kept-by : (s : RackState) (n : ℕ) (o : Outcome) → Kept s o → Kept s (answeredBy n s o)
 unfolding answeredBy
 kept-by s n o k = either (eqb n 0) k (λ _. refl)
 
-arbitrated-kept : (s : RackState) → Kept s (arbitrated s)
+pub arbitrated-kept : (s : RackState) → Kept s (arbitrated s)
 unfolding arbitrated wonBy
 arbitrated-kept s =
     either (eqb (settlingOf s .answer) 0) (either (someLoserFull s (winnerOf s)) (λ _. refl) (λ some. absurd (some refl))) (λ _. refl)

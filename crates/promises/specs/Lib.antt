@@ -1,5 +1,5 @@
--- What the demands say, as statements: runs of events, fairness, states, waiting counts, the round trip of a table, the most stages, and the waiting
--- report.
+-- What the demands say, as statements: runs of events, fairness, states, waiting counts, the round trip of a table, the most stages, the waiting
+-- report, the listing, and lent memory.
 pub mod Runs
 pub mod Fairness
 pub mod States
@@ -7,3 +7,5 @@ pub mod Counts
 pub mod RoundTrip
 pub mod Settling
 pub mod WaitingReport
+pub mod Listing
+pub mod Buffers

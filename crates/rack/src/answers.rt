@@ -1,7 +1,7 @@
 // What events take and answer: what is left of a state beside its table and its marks, and outcomes.
 ghost use mathlib.Core.Path.{_≡_};
 ghost use Rattle.arbiter.specs.Lent.{holdOf, outcomeFrom};
-ghost use Rattle.contest.specs.Marks.{marks};
+ghost use Rattle.rules.specs.Marks.{marks};
 use arbiter::Hold;
 use arbiter::Outcome;
 use arbiter::RackState;

@@ -17,7 +17,7 @@ use Rattle.arbiter.proofs.Refusals.{may-request, may-release, MayArbitrate, may
 use Rattle.arbiter.proofs.Winner.{Won, won}
 use Rattle.arbiter.specs.Arbitrate.{someLoserFull, granted, grantTo, settlingOf, winnerOf, wonBy, arbitrated, arbitrateRefusal, arbitrateOf}
 use Rattle.arbiter.specs.Events.{answered, answeredBy, requested, requestRefusal, requestOf, released, releaseRefusal, releaseOf}
-use Rattle.contest.specs.Marks.{isIn}
+use Rattle.rules.specs.Marks.{isIn}
 use Rattle.arbiter.specs.State.{waits, wellFormed}
 use Rattle.arbiter.specs.declared.Outcome.{Outcome}
 use Rattle.arbiter.specs.declared.RackState.{RackState}

@@ -8,12 +8,17 @@ use lib.Dec.{leb, ltb, eqb}
 use borrow.Author.Tests.{leb-true, leb-false, le-leb, lt-ltb, ltb-true, not-false}
 use Rattle.cards.proofs.Below.{all-at, all-each}
 use Rattle.cards.specs.Below.{allBelow}
-use Rattle.arbiter.proofs.Tests.{and-left, and-right}
+use Rattle.arbiter.proofs.Tests.{and-left, and-right, both}
 use Rattle.arbiter.specs.declared.Outcome.{Outcome}
-use Rattle.tally.specs.Room.{Small, roomAt, SquareRoom}
+use Rattle.tally.specs.Room.{Small, roomAt, SquareRoom, countedOn}
 use Rattle.tally.specs.Tally.{Square, figuresOf, rowOf, entryOf, figuresSmall, varianceGood, figuresGood, cardGood, entryGood, rowGood, tallyGood, countedAnswer}
 use Rattle.tally.specs.declared.Figures.{Figures}
 use Rattle.tally.specs.declared.Tally.{Tally}
+
+-- a choice between a thing and itself
+pub cond-same : {A : Type 0} (t : Bool) {x : A} → cond t x x ≡ x
+cond-same true = refl
+cond-same false = refl
 
 module _ (n : ℕ) (f : Figures) where
   pub small-of : figuresSmall n f ≡ true → Small n f
@@ -81,14 +86,18 @@ rows-room n q below rows w l = all-each 64 (roomAt q w) (λ b m. lt-ltb (entryOf
     entry : (b : ℕ) → b < 64 → entryOf q b w ≤ n
     entry b m = leb-true (entryOf q b w) n (all-at 64 (entryGood n (rowOf q b)) (all-at 64 (rowGood n q) rows b m) w l)
 
-pub room-of : (n : ℕ) (q : Square) (o : Outcome) → (ltb n 65535 && ltb (o .winner) 64 && allBelow 64 (rowGood n q)) ≡ true → SquareRoom q o
-room-of n q o h =
-    let front : (ltb n 65535 && ltb (o .winner) 64) ≡ true = and-left _ (allBelow 64 (rowGood n q)) h in
-    let below : o .winner < 64 = ltb-true _ 64 (and-right (ltb n 65535) _ front) in
-    record {
-      card = below;
-      room = λ _. rows-room n q (ltb-true n 65535 (and-left _ (ltb (o .winner) 64) front)) (and-right (ltb n 65535 && ltb (o .winner) 64) _ h) _ below;
-    }
+module _ (n : ℕ) (q : Square) (o : Outcome) where
+  pub room-of : countedOn n q o ≡ true → SquareRoom q o
+  room-of h =
+      let front : (ltb n 65535 && ltb (o .winner) 64) ≡ true = and-left _ (allBelow 64 (rowGood n q)) h in
+      let below : o .winner < 64 = ltb-true _ 64 (and-right (ltb n 65535) _ front) in
+      record {
+        card = below;
+        room = λ _. rows-room n q (ltb-true n 65535 (and-left _ (ltb (o .winner) 64) front)) (and-right (ltb n 65535 && ltb (o .winner) 64) _ h) _ below;
+      }
+
+  pub counted-on : n < 65535 → o .winner < 64 → allBelow 64 (rowGood n q) ≡ true → countedOn n q o ≡ true
+  counted-on room below rows = both _ _ (both _ _ (lt-ltb n 65535 room) (lt-ltb (o .winner) 64 below)) rows
 
 -- what is known where a counted event is done
 pub record Counts (t : Tally) (q : Square) (n : ℕ) : Type 0 where

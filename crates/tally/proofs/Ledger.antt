@@ -1,6 +1,5 @@
 -- From a fresh state, a zero tally and a zero square, through any events: the figures are those worked out from the whole history. Assumes nothing.
 use Prim.Native.Nat.{ℕ, _+_, _≤_, _<_}
-use native.Mathlib.Numerals.{add-one}
 use native.Mathlib.Omega.{arith}
 use mathlib.Core.Bool.{Bool, true, false, cond, not, _&&_, _||_}
 use mathlib.Core.List.{List, [], _∷_}
@@ -111,7 +110,7 @@ true-more g letter a o x kind follows t =
     λ b l. kind .effect .flags b ∙ ap (λ (v : Bool). flagAfter x v b) (t .waiting b l)
     in
     record {
-      events = rw (t .events, add-one);
+      events = omega (arith, t .events);
       cards = λ b l. tabulate-at 64 (cardAfter (g .tally .cards) letter a (o .winner) (o .state .waiting)) b noFigures l
           ∙ kind .figures b (waits (o .state) b) (figuresOf (g .tally) b)
           ∙ (λ i. figuresBy x (flag b l i) b (t .cards b l i)) ∙ figures-more x (g .past) b follows;

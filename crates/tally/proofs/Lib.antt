@@ -7,3 +7,5 @@ pub mod History
 pub mod Happenings
 pub mod Ledger
 pub mod Kept
+pub mod Walked
+pub mod Determined

@@ -23,7 +23,10 @@ pub record SquareRoom (q : Square) (o : Outcome) : Type 0 where
   pub card : o .winner < 64
   pub room : isGrant o ≡ true → allBelow 64 (roomAt q (o .winner)) ≡ true
 
--- The square after an outcome, for a caller that may hand in any square and any outcome: where no event is counted on, since an entry exceeds the n
--- events counted, n leaves no room, or the winner is no number of a card, the square is handed back as given.
+-- An event is counted on: the n events counted leave room, the winner is a number of a card, and no entry exceeds n.
+abbrev pub countedOn : ℕ → Square → Outcome → Bool
+countedOn n q o = ltb n 65535 && ltb (o .winner) 64 && allBelow 64 (rowGood n q)
+
+-- The square after an outcome, for a caller that may hand in any square and any outcome: where no event is counted on, it is handed back as given.
 unfoldable pub squareFor : ℕ → Square → Outcome → Square
-squareFor n q o = cond (ltb n 65535 && ltb (o .winner) 64 && allBelow 64 (rowGood n q)) (squareAfter q o) q
+squareFor n q o = cond (countedOn n q o) (squareAfter q o) q

@@ -25,7 +25,7 @@ line-front s xs ys n h =
       List·getD-append xs ys 0 (5 * n + 4) h,
     )
 
-byte-back : (xs ys : List ℕ) (i j : ℕ) → i ≡ length xs + j → getD (xs ++ ys) i 0 ≡ getD ys j 0
+pub byte-back : (xs ys : List ℕ) (i j : ℕ) → i ≡ length xs + j → getD (xs ++ ys) i 0 ≡ getD ys j 0
 byte-back xs ys i j e = rw e (getD-append-add xs ys j 0)
 
 line-back : (s : RackState) (xs ys : List ℕ) (n k : ℕ) → length xs ≡ 5 * n → lineAt s (xs ++ ys) (n + k) ≡ lineAt s ys k
@@ -98,7 +98,7 @@ size-more : (l : Listing) (line : Listed) (b : Bool) → length (l .text) ≡ 19
 size-more l line true h e = h
 size-more l line false h e = rw (length-append, h, e) (omega arith)
 
-listing-size : (s : RackState) (trace : List ℕ) (n : ℕ) → length (listing s trace n .text) ≡ 19 * listing s trace n .lines
+pub listing-size : (s : RackState) (trace : List ℕ) (n : ℕ) → length (listing s trace n .text) ≡ 19 * listing s trace n .lines
 unfolding listing lineAt
 listing-size s trace zero = refl
 listing-size s trace (suc n) = size-more (listing s trace n) _ (listing s trace n .ended) (listing-size s trace n) (text-length trace n _ _ _ _ _)
@@ -117,7 +117,7 @@ made r last = take (r .written) last
 all-lines : (trace buffer : List ℕ) → Room trace buffer → linesWithin trace buffer ≡ wholeLines trace
 all-lines trace buffer room = min-eq-left (omega arith)
 
-by-contract : (s : RackState) (trace buffer : List ℕ) (r : Ran) (last : List ℕ) (n : ℕ) → wholeLines trace ≡ n → Room trace buffer
+pub by-contract : (s : RackState) (trace buffer : List ℕ) (r : Ran) (last : List ℕ) (n : ℕ) → wholeLines trace ≡ n → Room trace buffer
     → Lists s trace buffer r last → (r ≡ ranOf (listing s trace n)) × (made r last ≡ listing s trace n .text)
 by-contract s trace buffer r last n e room lists =
     let all : linesWithin trace buffer ≡ n = all-lines trace buffer room ∙ e in

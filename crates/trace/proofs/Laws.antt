@@ -20,7 +20,7 @@ use Rattle.arbiter.specs.declared.Hold.{Hold}
 use Rattle.arbiter.specs.declared.RackState.{RackState}
 use Rattle.arbiter.specs.declared.Reply.{Reply}
 use Rattle.cards.specs.declared.Table.{Table}
-use Rattle.contest.specs.Marks.{Marks}
+use Rattle.rules.specs.Marks.{Marks}
 use Rattle.trace.specs.Line.{isDigit, shaped, isMalformed, lineOutcome, textOf, lineText}
 use Rattle.trace.specs.Listing.{lineIn, textIn, Listed, lineAt, Listing, withLine, listing, ranOf}
 use Rattle.trace.specs.declared.Line.{Line}

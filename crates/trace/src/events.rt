@@ -2,7 +2,7 @@
 ghost use mathlib.Core.Path.{_≡_};
 ghost use Rattle.arbiter.specs.Lent.{stateOf, tableOf, quietReply, Leaves};
 ghost use Rattle.arbiter.specs.State.{wellFormed};
-ghost use Rattle.contest.specs.Marks.{marks};
+ghost use Rattle.rules.specs.Marks.{marks};
 ghost use Rattle.trace.specs.Line.{lineOutcome};
 use super::Line;
 use arbiter::Hold;

@@ -1,4 +1,4 @@
--- `arbiter::arbitrate_in` meets its contract: by the refusal, whose chain is the definition's. Assumes nothing.
+-- `arbiter::arbitrate_in` meets its contract: by the refusal, whose nest is the definition's. Assumes nothing.
 use Prim.Native.Nat.{ℕ, _≤_, _<_}
 use native.Mathlib.Omega.{arith}
 use mathlib.Core.Bool.{_&&_}
@@ -15,21 +15,18 @@ use Rattle.arbiter.specs.Arbitrate.{arbitrated, arbitrateRefusal}
 use Rattle.arbiter.specs.Lent.{stateOf, tableOf}
 use Rattle.arbiter.specs.declared.RackState.{RackState}
 use Rattle.cards.specs.declared.Table.{Table}
-use Rattle.contest.specs.Marks.{marks}
+use Rattle.rules.specs.Marks.{marks}
 
 is-closed-requires : tie.Need-is-closed-requires
 is-closed-requires c κs = search needs
 
-refusal-by-requires : tie.Need-refusal-by-requires
-refusal-by-requires c κs = search needs
-
 quiet-requires : tie.Need-quiet-requires
 quiet-requires c κs = search needs
 
--- the chain is the definition's, whatever the slots are
-module _ (c : tie.After-refusal-by) (slots : List ℕ) where
+-- the nest is the definition's, whatever the slots are
+module _ (c : tie.After-first-of3) (slots : List ℕ) where
   abbrev given : tie.Start
-  given = c .before .before .before
+  given = c .before .before .before .before .before
 
   abbrev table : Table
   table = tableOf (given .args .k) (given .args .rule) slots
@@ -39,17 +36,17 @@ module _ (c : tie.After-refusal-by) (slots : List ℕ) where
       stateOf table (marks (given .args .waiting .now) (given .args .counts .now) (given .args .batch .now) (given .args .inhibited .now))
       (given .args .hold)
 
-  told : c .refusal-by .result ≡ arbitrateRefusal (given .args .formed && leb (given .args .k) 6) state
+  told : c .first-of3 .result ≡ arbitrateRefusal (given .args .formed && leb (given .args .k) 6) state
   unfolding arbitrateRefusal
   told =
-      let closed = c .before .before .is-closed in
-      worked-out (given .args .formed && leb (given .args .k) 6) (closed .result) (eqb (given .args .hold .waiters) 0) 13 14 (c .refusal-by .ensures)
-      (closed .ensures) refl
+      let closed = c .before .before .before .before .is-closed in
+      worked-out (given .args .formed && leb (given .args .k) 6) (closed .result) (eqb (given .args .hold .waiters) 0) 13 14
+      (c .before .before .first-of .ensures) (c .before .first-of2 .ensures) (c .first-of3 .ensures) (closed .ensures) refl
 
-  width : c .refusal-by .result ≡ 0 → given .args .k ≤ 6
+  width : c .first-of3 .result ≡ 0 → given .args .k ≤ 6
   width none = may-width (given .args .formed) state (sym told ∙ none)
 
-  some : c .refusal-by .result ≡ 0 → 0 < given .args .hold .waiters
+  some : c .first-of3 .result ≡ 0 → 0 < given .args .hold .waiters
   some none =
       let stored = may-arbitrate (given .args .formed && leb (given .args .k) 6) state (sym told ∙ none) .some in
       omega (arith, eqb-false (given .args .hold .waiters) 0 stored)
@@ -82,7 +79,9 @@ arbitrate-in-spec =
     tie.close
     (tie.spec
     is-closed-requires
-    refusal-by-requires
+    (λ c κs. search needs)
+    (λ c κs. search needs)
+    (λ c κs. search needs)
     quiet-requires
     returns
     arbitrated-in-requires

@@ -1,4 +1,4 @@
--- `arbiter::release_in` meets its contract: by the refusal, whose chain is the definition's. Assumes nothing.
+-- `arbiter::release_in` meets its contract: by the refusal, whose nest is the definition's. Assumes nothing.
 use Prim.Native.Nat.{ℕ, _<_}
 use mathlib.Core.Bool.{Bool, not}
 use mathlib.Core.List.{List, []}
@@ -14,7 +14,7 @@ use Rattle.arbiter.specs.declared.Bus.the-variants.{Free}
 use Rattle.arbiter.specs.declared.RackState.{RackState}
 use Rattle.cards.proofs.TableKnown.{table-range}
 use Rattle.cards.specs.declared.Table.{Table}
-use Rattle.contest.specs.Marks.{marks}
+use Rattle.rules.specs.Marks.{marks}
 
 in-table-requires : tie.Need-in-table-requires
 in-table-requires c κs = search needs
@@ -22,16 +22,13 @@ in-table-requires c κs = search needs
 is-holder-requires : tie.Need-is-holder-requires
 is-holder-requires c κs = search needs
 
-refusal-by-requires : tie.Need-refusal-by-requires
-refusal-by-requires c κs = search needs
-
 quiet-requires : tie.Need-quiet-requires
 quiet-requires c κs = search needs
 
--- the chain is the definition's, whatever the width, the counts and the batch are, and whoever waits
-module _ (c : tie.After-refusal-by) (k : ℕ) (waiting : List Bool) (counts : List ℕ) (batch : List Bool) where
+-- the nest is the definition's, whatever the width, the counts and the batch are, and whoever waits
+module _ (c : tie.After-first-of3) (k : ℕ) (waiting : List Bool) (counts : List ℕ) (batch : List Bool) where
   abbrev given : tie.Start
-  given = c .before .before .before
+  given = c .before .before .before .before .before
 
   abbrev table : Table
   table = tableOf k (given .args .rule) (given .args .slots .now)
@@ -39,15 +36,15 @@ module _ (c : tie.After-refusal-by) (k : ℕ) (waiting : List Bool) (counts : Li
   abbrev state : RackState
   state = stateOf table (marks waiting counts batch (given .args .inhibited .now)) (given .args .hold)
 
-  told : c .refusal-by .result ≡ releaseRefusal (given .args .formed) state (given .args .a)
+  told : c .first-of3 .result ≡ releaseRefusal (given .args .formed) state (given .args .a)
   unfolding releaseRefusal
   told =
-      let known = c .before .before .in-table in
-      let holds = c .before .is-holder in
-      worked-out (given .args .formed) (not (known .result)) (not (holds .result)) 11 15 (c .refusal-by .ensures)
-      (ap not (known .ensures)) (ap not (holds .ensures))
+      let known = c .before .before .before .before .in-table in
+      let holds = c .before .before .before .is-holder in
+      worked-out (given .args .formed) (not (known .result)) (not (holds .result)) 11 15
+      (c .before .before .first-of .ensures) (c .before .first-of2 .ensures) (c .first-of3 .ensures) (ap not (known .ensures)) (ap not (holds .ensures))
 
-  below : c .refusal-by .result ≡ 0 → given .args .a < 64
+  below : c .first-of3 .result ≡ 0 → given .args .a < 64
   below none = table-range _ _ (may-release (given .args .formed) state (given .args .a) (sym told ∙ none) .known)
 
 returns : tie.Need-returns
@@ -83,7 +80,9 @@ release-in-spec =
     (tie.spec
     in-table-requires
     is-holder-requires
-    refusal-by-requires
+    (λ c κs. search needs)
+    (λ c κs. search needs)
+    (λ c κs. search needs)
     quiet-requires
     returns
     inhibit-requires

@@ -1,4 +1,4 @@
--- `arbiter::request_in` meets its contract: by the refusal, whose chain is the definition's. Assumes nothing.
+-- `arbiter::request_in` meets its contract: by the refusal, whose nest is the definition's. Assumes nothing.
 use Prim.Native.Nat.{ℕ, _<_}
 use mathlib.Core.Bool.{Bool, true, not}
 use mathlib.Core.List.{List, []}
@@ -9,13 +9,14 @@ use Rattle.arbiter.proofs.Leaving.{leaves-answered, leaves-refused, lea
 use Rattle.arbiter.proofs.Refusals.{may-request, worked-out, asks-in-range}
 use Rattle.arbiter.proofs.request_in.Statement.{statement}
 use Rattle.arbiter.proofs.request_in.Tie as tie
-use Rattle.arbiter.specs.Events.{oneWaits, requestRefusal}
+use Rattle.arbiter.specs.Events.{requestRefusal}
 use Rattle.arbiter.specs.Lent.{stateOf, tableOf}
 use Rattle.arbiter.specs.declared.Hold.{Hold}
 use Rattle.arbiter.specs.declared.RackState.{RackState}
 use Rattle.cards.proofs.TableKnown.{table-range}
 use Rattle.cards.specs.declared.Table.{Table}
-use Rattle.contest.specs.Marks.{marks}
+use Rattle.rules.specs.Counts.{oneWaits}
+use Rattle.rules.specs.Marks.{marks}
 
 in-table-requires : tie.Need-in-table-requires
 in-table-requires c κs = search needs
@@ -23,16 +24,13 @@ in-table-requires c κs = search needs
 waits-at-requires : tie.Need-waits-at-requires
 waits-at-requires c κs = search needs
 
-refusal-by-requires : tie.Need-refusal-by-requires
-refusal-by-requires c κs = search needs
-
 quiet-requires : tie.Need-quiet-requires
 quiet-requires c κs = search needs
 
--- the chain is the definition's, whatever the width, the rule and the sets are
-module _ (c : tie.After-refusal-by) (k rule : ℕ) (batch inhibited : List Bool) where
+-- the nest is the definition's, whatever the width, the rule and the sets are
+module _ (c : tie.After-first-of3) (k rule : ℕ) (batch inhibited : List Bool) where
   abbrev given : tie.Start
-  given = c .before .before .before .before
+  given = c .before .before .before .before .before .before
 
   abbrev table : Table
   table = tableOf k rule (given .args .slots .now)
@@ -40,15 +38,16 @@ module _ (c : tie.After-refusal-by) (k rule : ℕ) (batch inhibited : List Bool)
   abbrev state : RackState
   state = stateOf table (marks (given .args .waiting .now) (given .args .counts .now) batch inhibited) (given .args .hold)
 
-  told : c .refusal-by .result ≡ requestRefusal (given .args .formed) state (given .args .a)
+  told : c .first-of3 .result ≡ requestRefusal (given .args .formed) state (given .args .a)
   unfolding requestRefusal
   told =
-      let known = c .before .before .before .in-table in
-      let waits = c .before .waits-at in
-      worked-out (given .args .formed) (not (known .result)) (waits .result) 11 12 (c .refusal-by .ensures) (ap not (known .ensures)) (waits .ensures)
+      let known = c .before .before .before .before .before .in-table in
+      let waits = c .before .before .before .waits-at in
+      worked-out (given .args .formed) (not (known .result)) (waits .result) 11 12
+      (c .before .before .first-of .ensures) (c .before .first-of2 .ensures) (c .first-of3 .ensures) (ap not (known .ensures)) (waits .ensures)
       ∙ asks-in-range (given .args .formed) (given .args .slots .now) (given .args .waiting .now) (given .args .a)
 
-  below : c .refusal-by .result ≡ 0 → given .args .a < 64
+  below : c .first-of3 .result ≡ 0 → given .args .a < 64
   below none = table-range _ _ (may-request (given .args .formed) state (given .args .a) (sym told ∙ none) .known)
 
 returns : tie.Need-returns
@@ -91,7 +90,9 @@ request-in-spec =
     (tie.spec
     in-table-requires
     waits-at-requires
-    refusal-by-requires
+    (λ c κs. search needs)
+    (λ c κs. search needs)
+    (λ c κs. search needs)
     quiet-requires
     returns
     element-write-waiting

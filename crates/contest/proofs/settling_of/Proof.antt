@@ -1,7 +1,8 @@
 -- `contest::settling_of` meets its contract: it settles what the cards show; a width that no table has settles nothing. Assumes nothing.
 use mathlib.Core.Path.{_∙_}
 use borrow.Author.Needs.{needs}
-use Rattle.contest.proofs.Laws.{span-of, settled-as-shown}
+use Rattle.contest.proofs.Laws.{settled-as-shown}
+use Rattle.rules.proofs.Laws.{span-of}
 use Rattle.contest.proofs.settling_of.Statement.{statement}
 use Rattle.contest.proofs.settling_of.Tie as tie
 

@@ -9,7 +9,7 @@ use borrow.Author.Needs.{needs}
 use denote.Ref.{now}
 use Rattle.arbiter.specs.Lent.{stateOf}
 use Rattle.arbiter.specs.State.{wellFormed}
-use Rattle.contest.specs.Marks.{Marks, marks}
+use Rattle.rules.specs.Marks.{Marks, marks}
 use Rattle.trace.proofs.Laws.{Going, going-none, all-gone, formed-still, one-further, at-end}
 use Rattle.trace.proofs.run.Statement.{statement}
 use Rattle.trace.proofs.run.Tie as tie

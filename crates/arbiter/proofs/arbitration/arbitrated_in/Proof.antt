@@ -14,8 +14,8 @@ use Rattle.arbiter.specs.Arbitrate.{somePreferred, settlingOf, valueNow}
 use Rattle.arbiter.specs.Lent.{stateOf, tableOf}
 use Rattle.arbiter.specs.declared.RackState.{RackState}
 use Rattle.cards.specs.declared.Table.{Table}
-use Rattle.contest.proofs.Laws.{span-of}
-use Rattle.contest.specs.Marks.{Marks, marks}
+use Rattle.rules.proofs.Laws.{span-of}
+use Rattle.rules.specs.Marks.{Marks, marks}
 use Rattle.lines.specs.declared.Settled.{Settled}
 
 -- the state, whatever the slots are, and its settling

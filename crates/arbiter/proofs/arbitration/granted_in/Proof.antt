@@ -1,18 +1,20 @@
 -- `arbiter::arbitration::granted_in` meets its contract: by whether a loser's count is full. Assumes nothing.
 use Prim.Native.Nat.{ℕ}
-use mathlib.Core.Bool.{false}
-use mathlib.Core.List.{List, []}
-use mathlib.Core.Path.{_≡_, refl, sym, _∙_}
+use mathlib.Core.Bool.{Bool, false, not}
+use mathlib.Core.List.{List}
+use mathlib.Core.Path.{_≡_, refl, sym, ap, _∙_}
+use lib.ListN.{set}
 use borrow.Author.Needs.{needs}
-use borrow.Author.Tests.{eq-eqb, ne-eqb}
-use Rattle.arbiter.proofs.Laws.{loser-room}
-use Rattle.arbiter.proofs.Leaving.{leaves-answered}
+use Rattle.arbiter.proofs.Laws.{counts-grown}
+use Rattle.arbiter.proofs.Leaving.{leaves-answered, leaves-granted}
 use Rattle.arbiter.proofs.arbitration.granted_in.Statement.{statement}
 use Rattle.arbiter.proofs.arbitration.granted_in.Tie as tie
-use Rattle.arbiter.specs.Arbitrate.{batchNow, inhibitedNow, someLoserFull, losersCounted, granted, wonBy}
+use Rattle.arbiter.specs.Arbitrate.{somePreferred, batchNow, inhibitedNow, someLoserFull, countsAfter, wonBy}
 use Rattle.arbiter.specs.Lent.{stateOf, tableOf}
 use Rattle.arbiter.specs.declared.RackState.{RackState}
-use Rattle.contest.specs.Marks.{Marks, marks}
+use Rattle.rules.proofs.Laws.{span-of}
+use Rattle.rules.specs.Marks.{Marks, marks}
+use Rattle.rules.specs.Sets.{batchAnew, inhibitedAnew}
 
 -- the state, whatever the slots are
 module _ (c : tie.After-some-loser-full) (slots : List ℕ) where
@@ -26,7 +28,8 @@ module _ (c : tie.After-some-loser-full) (slots : List ℕ) where
   state = stateOf (tableOf (given .args .k) (given .args .rule) slots) lent (given .args .hold)
 
   full : someLoserFull state (given .args .w) ≡ c .some-loser-full .result
-  full = sym (c .some-loser-full .ensures slots (lent .batch) (lent .inhibited) (given .args .hold))
+  unfolding someLoserFull
+  full = sym (rw (span-of (given .args .k) (given .pre .1 .0)) at (c .some-loser-full .ensures))
 
 returns : tie.Need-returns
 unfolding wonBy
@@ -34,55 +37,46 @@ returns c slots s is anew value =
     let tested = c .before .before in
     rw (is, c .quiet .ensures, full tested slots ∙ c .before .if1 .taken) (leaves-answered (state tested slots .table) (lent tested slots) _ 16)
 
--- no loser's count is full, and the sets are those of the arbitration
-module _ (c : tie.After-clear-inhibitions) where
+-- no loser's count is full: the marks after the grant, whatever the slots are
+module _ (c : tie.After-grow-counts) (slots : List ℕ) where
+  abbrev cleared : tie.After-clear-inhibitions
+  cleared = c .before .before .before .before
+
   abbrev renewed : tie.After-renew-batch
-  renewed = c .before .before
+  renewed = cleared .before .before
 
   abbrev tested : tie.After-some-loser-full
   tested = renewed .before .before .before .before
 
-  room : (slots : List ℕ) → someLoserFull (state tested slots) (given tested slots .args .w) ≡ false
-  room slots = full tested slots ∙ renewed .before .before .before .if1 .left
+  abbrev at : RackState
+  at = state tested slots
 
-one-more-each-requires : tie.Need-one-more-each-requires
-one-more-each-requires c κs =
-    let branch = c .before .before in
-    let sets = branch .before .before in
-    let given = given (tested sets) [] in
-    loser-room (state (tested sets) []) (given .args .w) (room sets []) (given .pre .1 .0) (branch .if2 .taken)
+  abbrev winner : ℕ
+  winner = given tested slots .args .w
+
+  room : someLoserFull at winner ≡ false
+  room = full tested slots ∙ renewed .before .before .before .if1 .left
+
+  grown : c .grow-counts .last .1 .1 .0 ≡ countsAfter at winner
+  grown = c .grow-counts .ensures ∙ counts-grown at winner room (given tested slots .pre .1 .0)
+
+  module _ (anew : given tested slots .args .anew ≡ not (somePreferred at)) where
+    batched : set (renewed .renew-batch .last .1 .1 .1 .0) winner false ≡ set (batchNow at) winner false
+    unfolding batchNow
+    batched =
+        ap (λ (batch : List Bool). set batch winner false)
+        (renewed .renew-batch .ensures ∙ ap (λ (b : Bool). batchAnew (at .table .rule) b (at .waiting) (at .batch)) anew)
+
+    barred : cleared .clear-inhibitions .last .1 .1 .0 ≡ inhibitedNow at
+    unfolding inhibitedNow
+    barred = cleared .clear-inhibitions .ensures ∙ ap (λ (b : Bool). inhibitedAnew (at .table .rule) b (at .inhibited)) anew
 
 returns-2 : tie.Need-returns-2
-unfolding wonBy granted losersCounted batchNow inhibitedNow
 returns-2 c slots s is anew value =
-    let branch = c .before .before .before in
-    let sets = branch .before .before in
-    rw (
-      is,
-      c .one-more-each .ensures,
-      sets .clear-inhibitions .ensures,
-      renewed sets .renew-batch .ensures,
-      room sets slots,
-      eq-eqb _ _ (branch .if2 .taken),
-      ← (rw is at anew),
-      ← (rw is at value),
-    )
-    (record { reply = refl; marks-left = refl })
-
-returns-3 : tie.Need-returns-3
-unfolding wonBy granted losersCounted batchNow inhibitedNow
-returns-3 c slots s is anew value =
-    let sets = c .before .before in
-    rw (
-      is,
-      sets .clear-inhibitions .ensures,
-      renewed sets .renew-batch .ensures,
-      room sets slots,
-      ne-eqb _ _ (c .if2 .left),
-      ← (rw is at anew),
-      ← (rw is at value),
-    )
-    (record { reply = refl; marks-left = refl })
+    let then = rw is at anew in
+    rw is
+    (leaves-granted (at c slots) (winner c slots) _ _ _ _ _ _ _ _ (room c slots) refl (grown c slots) (batched c slots then) (barred c slots then) refl refl
+    (rw is at value))
 
 pub granted-in-spec : {M : Type 1} → statement M
 granted-in-spec =
@@ -97,6 +91,5 @@ granted-in-spec =
     (λ c. search needs)
     (λ c. search needs)
     (λ c. search needs)
-    one-more-each-requires
-    returns-2
-    returns-3)
+    (λ c κs. search needs)
+    returns-2)

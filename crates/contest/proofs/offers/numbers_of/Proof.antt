@@ -6,7 +6,7 @@ use borrow.Author.Needs.{needs}
 use Rattle.cards.proofs.Filled.{Filled, filled-none, filled-more, filled-all}
 use Rattle.contest.proofs.offers.numbers_of.Statement.{statement}
 use Rattle.contest.proofs.offers.numbers_of.Tie as tie
-use Rattle.contest.specs.Marks.{marks}
+use Rattle.rules.specs.Marks.{marks}
 use Rattle.contest.specs.Shown.{shownAt}
 
 abbrev Inv-loop : tie.InvT-loop

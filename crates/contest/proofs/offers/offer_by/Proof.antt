@@ -6,7 +6,7 @@ use borrow.Author.Tests.{lt-ltb, le-ltb}
 use Rattle.contest.proofs.Laws.{nothing-shown, product-small}
 use Rattle.contest.proofs.offers.offer_by.Statement.{statement}
 use Rattle.contest.proofs.offers.offer_by.Tie as tie
-use Rattle.contest.specs.Rules.{byRule, numberBy, goesFirst}
+use Rattle.rules.specs.Rules.{byRule, numberBy, goesFirst}
 
 returns : tie.Need-returns
 unfolding numberBy byRule goesFirst

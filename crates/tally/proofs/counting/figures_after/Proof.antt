@@ -1,8 +1,7 @@
-use mathlib.Core.Bool.{Bool, true, false, cond}
-use mathlib.Core.Path.{_≡_, refl}
 use lib.Dec.{eqb}
 use borrow.Author.Needs.{needs}
 use borrow.Author.Tests.{ne-eqb}
+use Rattle.tally.proofs.Laws.{cond-same}
 use Rattle.tally.proofs.counting.asked.Reads as asked-reads
 use Rattle.tally.proofs.counting.figures_after.Statement.{statement}
 use Rattle.tally.proofs.counting.figures_after.Tie as tie
@@ -20,10 +19,6 @@ by-grant c = rw (c .granted .ensures, c .before .match .keys2)
 by-another : tie.Need-returns-3
 unfolding figuresAfter
 by-another c = rw (ne-eqb _ _ (c .match .rest .0 .1), ne-eqb _ _ (c .match .rest .1), cond-same (eqb _ 82))
-  where
-    cond-same : {A : Type 0} (t : Bool) {x : A} → cond t x x ≡ x
-    cond-same true = refl
-    cond-same false = refl
 
 pub figures-after-spec : {M : Type 1} → statement M
 figures-after-spec =

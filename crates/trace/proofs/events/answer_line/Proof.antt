@@ -4,7 +4,7 @@ use Rattle.arbiter.proofs.Leaving.{leaves-answered}
 use Rattle.arbiter.proofs.Refusals.{told-truth}
 use Rattle.arbiter.specs.Lent.{stateOf, tableOf}
 use Rattle.arbiter.specs.declared.RackState.{RackState}
-use Rattle.contest.specs.Marks.{marks}
+use Rattle.rules.specs.Marks.{marks}
 use Rattle.trace.proofs.events.answer_line.Statement.{statement}
 use Rattle.trace.proofs.events.answer_line.Tie as tie
 use Rattle.trace.specs.Line.{lineOutcome}

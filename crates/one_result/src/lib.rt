@@ -1,0 +1,1 @@
+// A definition and a lemma alone: see specs/ and proofs/.
