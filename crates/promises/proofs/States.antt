@@ -10,10 +10,10 @@ use Rattle.arbiter.proofs.Formed.{formed-of, of-formed, some-stored, fresh-well
 use Rattle.arbiter.proofs.Kept.{stays-well-formed}
 use Rattle.arbiter.proofs.Numbers.{settles}
 use Rattle.arbiter.proofs.Seen.{NoGrant, refused, full, asked, handed, Seen, quiet, grant, seen}
+use Rattle.arbiter.proofs.Told.{refused-keeps}
 use Rattle.arbiter.specs.Arbitrate.{settlingOf, winnerOf, someLoserFull, grantTo, wonBy, arbitrated, arbitrateRefusal, eventOf}
 use Rattle.arbiter.specs.Events.{answered, answeredBy, requestRefusal, releaseRefusal}
 use Rattle.arbiter.specs.State.{recount, wellFormed, freshOf}
-use Rattle.arbiter.specs.declared.Outcome.{Outcome}
 use Rattle.arbiter.specs.declared.RackState.{RackState}
 use Rattle.cardfile.proofs.LoadedGood.{loaded-good, refused-zero}
 use Rattle.cardfile.specs.Format.{refusedWith}
@@ -33,30 +33,8 @@ loads-well-formed file done = fresh-well-formed (loadOf file .state .table) (loa
 
 -- ---- a refused event
 
--- a refused outcome is the refusal alone
-abbrev pub Kept : RackState → Outcome → Type 0
-Kept s o = o .answer ≢ 0 → o ≡ answered s (o .answer)
-
-either : {s : RackState} (t : Bool) {x y : Outcome} → Kept s x → Kept s y → Kept s (cond t x y)
-either true f g = f
-either false f g = g
-
-pub kept-by : (s : RackState) (n : ℕ) (o : Outcome) → Kept s o → Kept s (answeredBy n s o)
-unfolding answeredBy
-kept-by s n o k = either (eqb n 0) k (λ _. refl)
-
-pub arbitrated-kept : (s : RackState) → Kept s (arbitrated s)
-unfolding arbitrated wonBy
-arbitrated-kept s =
-    either (eqb (settlingOf s .answer) 0) (either (someLoserFull s (winnerOf s)) (λ _. refl) (λ some. absurd (some refl))) (λ _. refl)
-
 pub refused-event-keeps : RefusedEventKeeps
-unfolding eventOf
-refused-event-keeps s e =
-    either (eqb (e .letter) 81) (kept-by s _ _ (λ some. absurd (some refl)))
-    (either (eqb (e .letter) 65) (kept-by s _ _ (arbitrated-kept s))
-    (either (eqb (e .letter) 82) (kept-by s _ _ (λ some. absurd (some refl)))
-    (λ _. refl)))
+refused-event-keeps s e = refused-keeps s (e .letter) (e .number)
 
 -- what the letter selects, for the outcome as for its number
 by-letter : (s : RackState) (q a r : Bool)
