@@ -11,7 +11,7 @@ use lib.Pow.{pow-lt}
 use Rattle.arbiter.proofs.Formed.{Formed, formed-of}
 use Rattle.arbiter.proofs.Numbers.{wide, greatest-fits, settles}
 use Rattle.arbiter.proofs.Seen.{Seen, quiet, grant, seen}
-use Rattle.arbiter.specs.Arbitrate.{competing, settlingOf, winnerOf, someLoserFull, grantTo, wonBy, arbitrated, arbitrateRefusal, eventOf}
+use Rattle.arbiter.specs.Arbitrate.{competing, settlingOf, winnerOf, someLoserFull, grantTo, wonBy, hasWinner, arbitrated, arbitrateRefusal, eventOf}
 use Rattle.arbiter.specs.Events.{answered, answeredBy, requestRefusal, requestOf, releaseRefusal, releaseOf}
 use Rattle.arbiter.specs.State.{waits, isClosed, isHolder, linesOf, wellFormed}
 use Rattle.arbiter.specs.declared.Outcome.{Outcome}
@@ -86,7 +86,7 @@ module _ (s : RackState) where
   small-arbitration false ill = refused-small s 17 (omega arith)
   small-arbitration true ok =
       small-by (arbitrateRefusal true s) (arbitrated s) (chain false (isClosed (s .bus)) (eqb (s .waiters) 0) 13 14 (omega arith) (omega arith))
-      (either (eqb (settlingOf s .answer) 0)
+      (either (hasWinner (winnerOf s) (settlingOf s))
       (either (someLoserFull s (winnerOf s)) (refused-small s 16 (omega arith)) (small-grant (formed-of s ok)))
       (refused-small s 17 (omega arith)))
 
@@ -114,7 +114,7 @@ kept-by s n o k = kept-either (eqb n 0) k (λ _. refl)
 pub arbitrated-kept : (s : RackState) → Kept s (arbitrated s)
 unfolding arbitrated wonBy
 arbitrated-kept s =
-    kept-either (eqb (settlingOf s .answer) 0) (kept-either (someLoserFull s (winnerOf s)) (λ _. refl) (λ some. absurd (some refl))) (λ _. refl)
+    kept-either (hasWinner (winnerOf s) (settlingOf s)) (kept-either (someLoserFull s (winnerOf s)) (λ _. refl) (λ some. absurd (some refl))) (λ _. refl)
 
 pub refused-keeps : (s : RackState) (letter a : ℕ) → Kept s (eventOf s letter a)
 unfolding eventOf
