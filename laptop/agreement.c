@@ -32,19 +32,22 @@ void check_place(const struct tally *tally, const struct card *card, size_t line
     }
 }
 
-/* Whether some waits have this sum and this variance. With the sum of their squares the spread is
- * grants times squares less the sum squared. Of whole numbers, the sum of squares is at least the
- * sum and at most its square, and it is odd exactly where the sum is. All products stay below
- * 2^64: a sum has 5 digits, a spread 15. */
+/* Whether some waits have this sum and this sum of squares. Of whole numbers, the sum of squares is
+ * at least the sum and at most its square, and it is odd exactly where the sum is. */
 static bool waits_exist(const struct card *card)
 {
     if (card->grants == 0) {
-        return card->waited == 0 && card->spread == 0;
+        return card->waited == 0 && card->squares == 0;
     }
-    uint64_t sum_squared = card->waited * card->waited;
-    uint64_t squares = (card->spread + sum_squared) / card->grants;
-    return (card->spread + sum_squared) % card->grants == 0 && squares >= card->waited &&
-           squares <= sum_squared && squares % 2 == card->waited % 2;
+    return card->squares >= card->waited && card->squares <= card->waited * card->waited &&
+           card->squares % 2 == card->waited % 2;
+}
+
+/* Whether the spread is grants times squares less the sum squared. All sums and products stay below
+ * 2^64: grants and a sum have 5 digits, squares 10, a spread 15. */
+static bool spread_fits(const struct card *card)
+{
+    return card->spread + card->waited * card->waited == card->grants * card->squares;
 }
 
 void check_fractions(const struct card *card, uint64_t mean_over, uint64_t spread_over, size_t line)
@@ -60,7 +63,11 @@ void check_fractions(const struct card *card, uint64_t mean_over, uint64_t sprea
                   line, spread_over, grants * grants);
     }
     if (!waits_exist(card)) {
-        bad_input("report line %zu: no waits have this mean and this variance", line);
+        bad_input("report line %zu: no waits have this mean and this sum of squares", line);
+    }
+    if (!spread_fits(card)) {
+        bad_input("report line %zu: the variance does not fit the grants, the waits and the squares",
+                  line);
     }
 }
 

@@ -10,15 +10,17 @@
 static const char opening_shape[] = ".... 00 00000\n";
 enum { WHY_AT = 5, EVENTS_AT = 8 };
 
-/* Where those of a card stand: slot, number, grants, mean wait, variance. */
-static const char card_shape[] = "00 00 00000 00000/00000 000000000000000/0000000000\n";
+/* Where those of a card stand: slot, number, grants, mean wait, sum of squares, variance. */
+static const char card_shape[] =
+    "00 00 00000 00000/00000 0000000000 000000000000000/0000000000\n";
 enum {
     NUMBER_AT = 3,
     GRANTS_AT = 6,
     WAITED_AT = 12,
     MEAN_OVER_AT = 18,
-    SPREAD_AT = 24,
-    SPREAD_OVER_AT = 40,
+    SQUARES_AT = 24,
+    SPREAD_AT = 35,
+    SPREAD_OVER_AT = 51,
 };
 
 /* A row of the square has a number, and behind it a blank and a count for each card. */
@@ -62,6 +64,7 @@ static void take_card(struct tally *tally, const struct source *source)
         .number = (unsigned)number_at(line, NUMBER_AT),
         .grants = number_at(line, GRANTS_AT),
         .waited = number_at(line, WAITED_AT),
+        .squares = number_at(line, SQUARES_AT),
         .spread = number_at(line, SPREAD_AT),
     };
     check_place(tally, &card, source->line);
@@ -105,7 +108,7 @@ static void take_row(struct tally *tally, const struct source *source, size_t ro
     check_row(tally, row, source->line);
 }
 
-#define CARD_LIKE "a card like 03 06 00002 00002/00002 000000000000004/0000000004"
+#define CARD_LIKE "a card like 03 06 00002 00002/00002 0000000004 000000000000004/0000000004"
 
 /* Takes all cards, one at least, and reads the line behind them: a row of the square, or none. */
 static void take_cards(struct tally *tally, struct source *source)

@@ -17,8 +17,9 @@ struct card {
     unsigned slot;
     unsigned number;
     uint64_t grants;
-    uint64_t waited; /* the sum of its waits: over grants it is the mean wait */
-    uint64_t spread; /* over grants squared it is the variance of its waits */
+    uint64_t waited;  /* the sum of its waits: over grants it is the mean wait */
+    uint64_t squares; /* the sum of its squared waits */
+    uint64_t spread;  /* over grants squared it is the variance of its waits */
 };
 
 struct tally {

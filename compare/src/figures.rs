@@ -11,8 +11,9 @@ pub const MOST_EVENTS: usize = 65_535;
 #[derive(Clone, Copy, Debug, PartialEq, Eq)]
 pub struct Figures {
     pub grants: u64,
-    /// The sum of its waits, in grants to others.
+    /// The sum of its waits, in grants to others, and of their squares.
     pub sum: u64,
+    pub squares: u64,
     /// Above the line and below it.
     pub variance: (u64, u64),
 }
@@ -65,6 +66,7 @@ pub fn figures(waits: &[Wait]) -> Figures {
     Figures {
         grants,
         sum: lengths.iter().sum(),
+        squares: lengths.iter().map(|length| length * length).sum(),
         variance: (squared_differences(&lengths), grants * grants),
     }
 }
@@ -129,10 +131,11 @@ mod tests {
         figures(&waits(history, card))
     }
 
-    fn plain(grants: u64, sum: u64, variance: (u64, u64)) -> Figures {
+    fn plain(grants: u64, sum: u64, squares: u64, variance: (u64, u64)) -> Figures {
         Figures {
             grants,
             sum,
+            squares,
             variance,
         }
     }
@@ -140,17 +143,17 @@ mod tests {
     #[test]
     fn the_worked_history() {
         assert_eq!(done_events(&WORKED), 12);
-        assert_eq!(figures_of(2, &WORKED), plain(1, 2, (0, 1)));
-        assert_eq!(figures_of(5, &WORKED), plain(1, 1, (0, 1)));
-        assert_eq!(figures_of(6, &WORKED), plain(2, 2, (4, 4)));
+        assert_eq!(figures_of(2, &WORKED), plain(1, 2, 4, (0, 1)));
+        assert_eq!(figures_of(5, &WORKED), plain(1, 1, 1, (0, 1)));
+        assert_eq!(figures_of(6, &WORKED), plain(2, 2, 4, (4, 4)));
         let rows = [[0, 1, 1], [0, 0, 1], [1, 1, 0]];
         assert_eq!(square(&WORKED, &[2, 5, 6]), rows);
     }
 
     #[test]
     fn a_card_without_a_grant() {
-        assert_eq!(figures_of(3, &WORKED), plain(0, 0, (0, 0)));
-        assert_eq!(figures_of(2, &WORKED[..10]), plain(0, 0, (0, 0)));
+        assert_eq!(figures_of(3, &WORKED), plain(0, 0, 0, (0, 0)));
+        assert_eq!(figures_of(2, &WORKED[..10]), plain(0, 0, 0, (0, 0)));
     }
 
     /// A wait that is not over is in the square alone; at its own grant a card no longer waits.

@@ -6,7 +6,7 @@ use crate::table::{self, Table};
 use crate::waiting::{history, waits, Entry};
 
 pub const OPENING_LINE: usize = 14;
-pub const CARD_LINE: usize = 51;
+pub const CARD_LINE: usize = 62;
 
 /// Why the counting ended.
 const TRACE_ENDED: u32 = 0;
@@ -21,9 +21,12 @@ fn card_line(slot: u8, card: u8, figures: Figures) -> String {
     let Figures {
         grants,
         sum,
+        squares,
         variance: (above, below),
     } = figures;
-    format!("{slot:02} {card:02} {grants:05} {sum:05}/{grants:05} {above:015}/{below:010}\n")
+    let mean = format!("{sum:05}/{grants:05}");
+    let variance = format!("{above:015}/{below:010}");
+    format!("{slot:02} {card:02} {grants:05} {mean} {squares:010} {variance}\n")
 }
 
 fn square_line(card: u8, row: &[u64]) -> String {
@@ -84,9 +87,10 @@ mod tests {
         let figures = Figures {
             grants: 65_535,
             sum: 65_534,
+            squares: 4_294_836_225,
             variance: (999_999_999_999_999, 65_535 * 65_535),
         };
-        let line = "63 07 65535 65534/65535 999999999999999/4294836225\n";
+        let line = "63 07 65535 65534/65535 4294836225 999999999999999/4294836225\n";
         assert_eq!(card_line(63, 7, figures), line);
         assert_eq!(line.len(), CARD_LINE);
         assert_eq!(opening_line("end.", 31, MOST_EVENTS), "end. 31 65535\n");

@@ -18,8 +18,8 @@ reported() {
 # half, or carry into the whole part.
 make_figures() {
     awk 'function card(slot, number, grants, waited, squares) {
-            printf "%02d %02d %05d %05d/%05d %015.0f/%010.0f\n", slot, number, grants, waited,
-                grants, grants * squares - waited * waited, grants * grants
+            printf "%02d %02d %05d %05d/%05d %010.0f %015.0f/%010.0f\n", slot, number, grants,
+                waited, grants, squares, grants * squares - waited * waited, grants * grants
         }
         BEGIN {
             print "end. 31 65535"
@@ -43,8 +43,8 @@ make_reports() {
     sed '1s/00/18/' "$report" > "$work/ended-18"
     echo 'tab. 07 00000' > "$work/ended-tab"
     sed '1s/00 00012/31 65535/' "$work/plain" > "$work/ended-31"
-    printf '%s\n' 'end. 00 00000' '03 01 00000 00000/00000 000000000000000/0000000000' '01 00000' \
-        > "$work/idle"
+    printf '%s\n' 'end. 00 00000' \
+        '03 01 00000 00000/00000 0000000000 000000000000000/0000000000' '01 00000' > "$work/idle"
     make_figures
 }
 
@@ -108,7 +108,7 @@ no_report_line() {
 }
 
 opening='one like end. 00 00012'
-card='a card like 03 06 00002 00002/00002 000000000000004/0000000004'
+card='a card like 03 06 00002 00002/00002 0000000004 000000000000004/0000000004'
 
 test_openings() {
     local name script
@@ -155,6 +155,11 @@ grants of 4 digits:3s/ 00001/ 0001/
 grants of 6 digits:3s/ 00001/ 000001/
 no mean:3s/ 00001.00001//
 mean with a blank:3s/\// /
+no squares:3s/ 0000000001 / /
+squares of 9 digits:3s/ 0000000001 / 000000001 /
+squares of 11 digits:3s/ 0000000001 / 00000000001 /
+letter in the squares:3s/ 0000000001 / 000000000x /
+squares as a fraction:3s/ 0000000001 / 0000000001\//
 variance of 16 digits:3s/ 000000000000000/ 0000000000000000/
 variance of 14 digits:3s/ 000000000000000/ 00000000000000/
 letter in the variance:3s/ 000000000000000/ 00000000000000e/
@@ -175,7 +180,8 @@ END
 }
 
 test_report_figures() {
-    local none=': no waits have this mean and this variance'
+    local none=': no waits have this mean and this sum of squares'
+    local misfit=': the variance does not fit the grants, the waits and the squares'
     damaged 'mean over other grants' ': the mean wait is over 3, but the grants are 2' 4 \
         '4s/00002\/00002/00002\/00003/'
     damaged 'grants other than the fractions' ': the mean wait is over 2, but the grants are 3' 4 \
@@ -184,14 +190,19 @@ test_report_figures() {
         4 '4s/4$/2/'
     damaged 'waits without a grant' "$none" 3 \
         '3s/00001 00001\/00001 \(.*\)1$/00000 00001\/00000 \10/'
-    damaged 'variance without a grant' "$none" 3 \
-        '3s/00001 00001\/00001 00\(.*\)0\/\(.*\)1$/00000 00000\/00000 00\11\/\20/'
-    damaged 'variance that no waits have' "$none" 4 '4s/4\//3\//'
+    damaged 'squares without a grant' "$none" 3 \
+        '3s/.*/02 05 00000 00000\/00000 0000000001 000000000000000\/0000000000/'
+    damaged 'variance without a grant' "$misfit" 3 \
+        '3s/.*/02 05 00000 00000\/00000 0000000000 000000000000001\/0000000000/'
+    damaged 'variance that these waits do not have' "$misfit" 4 '4s/4\//3\//'
+    damaged 'squares that this variance does not have' "$misfit" 4 '4s/0000000004 /0000000002 /'
     damaged 'squares below the sum' "$none" 4 \
-        '4s/.*/03 06 00008 00004\/00008 000000000000000\/0000000064/'
-    damaged 'squares above the sum squared' "$none" 4 '4s/4\//8\//'
-    damaged 'squares odd, sum even' "$none" 4 '4s/4\//2\//'
-    damaged 'variance of one wait' "$none" 2 '2s/0\//1\//'
+        '4s/.*/03 06 00008 00004\/00008 0000000002 000000000000000\/0000000064/'
+    damaged 'squares above the sum squared' "$none" 4 \
+        '4s/.*/03 06 00002 00002\/00002 0000000006 000000000000008\/0000000004/'
+    damaged 'squares odd, sum even' "$none" 4 \
+        '4s/.*/03 06 00002 00002\/00002 0000000003 000000000000002\/0000000004/'
+    damaged 'variance of one wait' "$misfit" 2 '2s/0\//1\//'
     local more=': more grants or waits than the 2 done events'
     damaged 'more grants than events' "$more" 4 '1s/12/02/'
     damaged 'more waits than events' ': more grants or waits than the 1 done events' 2 '1s/12/01/'
@@ -216,7 +227,7 @@ row of another number:6s/^05/06/
 row twice:5p
 row missing:6d
 blank row:6s/.*//
-card among the rows:6s/.*/03 06 00002 00002\/00002 000000000000004\/0000000004/
+card among the rows:6s/.*/03 06 00002 00002\/00002 0000000004 000000000000004\/0000000004/
 END
     damaged 'last row missing' " is missing: expected $(row 06)" 7 '$d'
     damaged 'rows but the first missing' " is missing: expected $(row 05)" 6 '6,$d'

@@ -41,8 +41,8 @@ END {
     for (i = 1; i <= cards; i++) {
         a = number[i]
         g = grants[a] + 0
-        printf "%02d %02d %05d %05d/%05d %015.0f/%010.0f\n", slot[i], a, g, sum[a], g,
-            g * squares[a] - sum[a] ^ 2, g * g
+        printf "%02d %02d %05d %05d/%05d %010.0f %015.0f/%010.0f\n", slot[i], a, g, sum[a], g,
+            squares[a], g * squares[a] - sum[a] ^ 2, g * g
     }
     for (i = 1; square && i <= cards; i++) {
         printf "%02d", number[i]

@@ -71,7 +71,7 @@ Q 01 12 00 0000 00
     fn judged(listing: &[u8], events: u32, grants: [u32; 2]) -> Result<(), String> {
         let mut table = Table::NONE;
         (table.slots[1], table.slots[2]) = (1, 2);
-        let line = |grants| format!("00 00 {grants:05}{:39}\n", "");
+        let line = |grants| format!("00 00 {grants:05}{:50}\n", "");
         let lines = grants.map(line).concat();
         let report = format!("end. 00 {events:05}\n{lines}");
         judge(&table, listing, report.as_bytes())

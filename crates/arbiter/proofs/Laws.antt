@@ -22,7 +22,7 @@ use Rattle.rules.proofs.Laws.{lines-given}
 use Rattle.rules.specs.Counts.{oneMoreOf, fullLoser, grownAt, countsGrown}
 use Rattle.rules.specs.Marks.{isIn}
 use Rattle.contest.specs.Shown.{shownAt, shownSettling}
-use Rattle.lines.proofs.Silent.{Silent, none, kept, more, silent-append, result-silent}
+use Rattle.lines.proofs.Silent.{Silent, none, kept, more, silent-append, Alike, result-silent}
 
 at-most-one : (b : Bool) (x : ℕ) → length (cond b (x ∷ []) []) ≤ 1
 at-most-one true x = omega arith
@@ -46,7 +46,7 @@ module _ (s : RackState) (anew : Bool) (is : anew ≡ not (somePreferred s)) whe
       one false c = more none
 
   -- so that it settles as the competing numbers do
-  pub shown-settles : s .table .k ≤ 6 → shownSettling (s .table .k) (s .table .rule) (s .last) (s .value) anew (marksOf s) ≡ settlingOf s
+  pub shown-settles : s .table .k ≤ 6 → Alike (shownSettling (s .table .k) (s .table .rule) (s .last) (s .value) anew (marksOf s)) (settlingOf s)
   shown-settles small =
       rw (lines-given (s .table .k) (s .table .rule) small) (result-silent (linesOf s) (s .value) 13 (shown-silent 64) (rw tabulate-length (omega arith)))
 

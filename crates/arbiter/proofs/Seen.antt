@@ -4,20 +4,18 @@ use Prim.Native.Nat.{ℕ}
 use native.Mathlib.Omega.{arith}
 use mathlib.Core.Bool.{Bool, true, false, cond, not}
 use mathlib.Core.Logic.{_≢_}
-use mathlib.Core.Path.{_≡_, refl, ap}
+use mathlib.Core.Path.{_≡_, refl}
 use lib.Dec.{eqb}
 use borrow.Author.Tests.{eqb-true, eqb-false}
 use Rattle.arbiter.proofs.Formed.{formed-of, some-wait}
-use Rattle.arbiter.proofs.Numbers.{settles}
 use Rattle.arbiter.proofs.Refusals.{may-request, may-release, MayArbitrate, may-arbitrate}
-use Rattle.arbiter.proofs.Winner.{Won, won}
-use Rattle.arbiter.specs.Arbitrate.{winnerOf, settlingOf, someLoserFull, granted, wonBy, arbitrated, arbitrateRefusal, arbitrateOf, eventOf}
+use Rattle.arbiter.proofs.Winner.{Won, won, arbitrated-won}
+use Rattle.arbiter.specs.Arbitrate.{winnerOf, someLoserFull, granted, wonBy, arbitrated, arbitrateRefusal, arbitrateOf, eventOf}
 use Rattle.arbiter.specs.Events.{answered, answeredBy, requested, requestRefusal, requestOf, released, releaseRefusal, releaseOf}
 use Rattle.arbiter.specs.State.{waits, isClosed, isHolder, wellFormed}
 use Rattle.arbiter.specs.declared.Outcome.{Outcome}
 use Rattle.arbiter.specs.declared.RackState.{RackState}
 use Rattle.cards.specs.Table.{inTable}
-use Rattle.lines.specs.declared.Settled.{Settled}
 
 -- an event that grants nothing: the state it returns and its answer
 pub data NoGrant (s : RackState) : RackState → ℕ → Type 0 where
@@ -62,12 +60,12 @@ release-seen s a =
     (λ none. let may = may-release (wellFormed s) s a none in quiet refl (handed a (may .told) (may .known) (may .holds)))
 
 arbitrated-seen : (s : RackState) → MayArbitrate (wellFormed s) s → Seen s (arbitrated s)
-unfolding arbitrated wonBy
+unfolding wonBy
 arbitrated-seen s may =
-    let done : settlingOf s .answer ≡ 0 = ap (λ (t : Settled). t .answer) (settles s (formed-of s (may .told))) in
-    rw done
+    let some = some-wait s (formed-of s (may .told)) (may .some) in
+    rw (arbitrated-won s (may .told) some)
     (either (someLoserFull s (winnerOf s)) (λ f. quiet refl (full _ (may .told) f))
-    (λ room. grant refl (may .free) room refl (won s (may .told) (some-wait s (formed-of s (may .told)) (may .some)))))
+    (λ room. grant refl (may .free) room refl (won s (may .told) some)))
 
 arbitrate-seen : (s : RackState) → Seen s (arbitrateOf s)
 unfolding arbitrateRefusal

@@ -1,17 +1,17 @@
--- What an event tells is small: its answer is one of document 01's for an event, its winner a card's number, and its settled lines are at most twelve, and
--- so its stages. So two digits, two, four and two hold them. Assumes nothing.
+-- What an event tells. It is small: the answer is one of document 01's for an event, the winner a card's number, the settled lines are at most twelve, and
+-- so the stages. So two digits, two, four and two hold them. And a refused event tells its refusal alone. Assumes nothing.
 use Prim.Native.Nat.{ℕ, _^_, _≤_, _<_}
 use native.Mathlib.Nat.{eq-or-lt-of-le}
 use native.Mathlib.Omega.{arith}
 use mathlib.Core.Bool.{Bool, true, false, cond, not}
-use mathlib.Core.Logic.{⊎-elim}
+use mathlib.Core.Logic.{_≢_, ⊎-elim}
 use mathlib.Core.Path.{_≡_, refl}
 use lib.Dec.{eqb}
 use lib.Pow.{pow-lt}
 use Rattle.arbiter.proofs.Formed.{Formed, formed-of}
 use Rattle.arbiter.proofs.Numbers.{wide, greatest-fits, settles}
 use Rattle.arbiter.proofs.Seen.{Seen, quiet, grant, seen}
-use Rattle.arbiter.specs.Arbitrate.{competing, settlingOf, winnerOf, someLoserFull, grantTo, wonBy, arbitrated, arbitrateRefusal, arbitrateOf, eventOf}
+use Rattle.arbiter.specs.Arbitrate.{competing, settlingOf, winnerOf, someLoserFull, grantTo, wonBy, hasWinner, arbitrated, arbitrateRefusal, eventOf}
 use Rattle.arbiter.specs.Events.{answered, answeredBy, requestRefusal, requestOf, releaseRefusal, releaseOf}
 use Rattle.arbiter.specs.State.{waits, isClosed, isHolder, linesOf, wellFormed}
 use Rattle.arbiter.specs.declared.Outcome.{Outcome}
@@ -86,7 +86,7 @@ module _ (s : RackState) where
   small-arbitration false ill = refused-small s 17 (omega arith)
   small-arbitration true ok =
       small-by (arbitrateRefusal true s) (arbitrated s) (chain false (isClosed (s .bus)) (eqb (s .waiters) 0) 13 14 (omega arith) (omega arith))
-      (either (eqb (settlingOf s .answer) 0)
+      (either (hasWinner (winnerOf s) (settlingOf s))
       (either (someLoserFull s (winnerOf s)) (refused-small s 16 (omega arith)) (small-grant (formed-of s ok)))
       (refused-small s 17 (omega arith)))
 
@@ -97,3 +97,29 @@ small s letter a =
     (either (eqb letter 65) (small-arbitration s (wellFormed s) refl)
     (either (eqb letter 82) (small-release s a)
     (refused-small s 18 (omega arith))))
+
+-- ---- a refused event returns the state given, with winner, lines and stages 0
+
+abbrev pub Kept : RackState → Outcome → Type 0
+Kept s o = o .answer ≢ 0 → o ≡ answered s (o .answer)
+
+kept-either : {s : RackState} (v : Bool) {x y : Outcome} → Kept s x → Kept s y → Kept s (cond v x y)
+kept-either true f g = f
+kept-either false f g = g
+
+pub kept-by : (s : RackState) (n : ℕ) (o : Outcome) → Kept s o → Kept s (answeredBy n s o)
+unfolding answeredBy
+kept-by s n o k = kept-either (eqb n 0) k (λ _. refl)
+
+pub arbitrated-kept : (s : RackState) → Kept s (arbitrated s)
+unfolding arbitrated wonBy
+arbitrated-kept s =
+    kept-either (hasWinner (winnerOf s) (settlingOf s)) (kept-either (someLoserFull s (winnerOf s)) (λ _. refl) (λ some. absurd (some refl))) (λ _. refl)
+
+pub refused-keeps : (s : RackState) (letter a : ℕ) → Kept s (eventOf s letter a)
+unfolding eventOf
+refused-keeps s letter a =
+    kept-either (eqb letter 81) (kept-by s _ _ (λ some. absurd (some refl)))
+    (kept-either (eqb letter 65) (kept-by s _ _ (arbitrated-kept s))
+    (kept-either (eqb letter 82) (kept-by s _ _ (λ some. absurd (some refl)))
+    (λ _. refl)))

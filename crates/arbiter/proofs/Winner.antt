@@ -5,11 +5,12 @@ use native.Mathlib.Nat.{not-suc-le-zero, le-of-suc-le-suc, eq-or-lt-of-le}
 use native.Mathlib.Omega.{arith}
 use mathlib.Core.Bool.{Bool, true, false, not, _&&_, _||_}
 use mathlib.Core.Logic.{_⊎_, inl, inr}
-use mathlib.Core.Path.{_≡_, refl, _∙_}
+use mathlib.Core.Path.{_≡_, refl, ap, _∙_}
+use borrow.Author.Tests.{ne-eqb}
 use Rattle.arbiter.proofs.Formed.{Formed, formed-of, waiting-below, waiting-card, card-positive, card-small}
 use Rattle.arbiter.proofs.Numbers.{competitor-waits, wide, greatest-more, greatest-fits, settles}
 use Rattle.arbiter.specs.Arbitrate.{numberOf, preferred, waitsPreferred, somePreferred, competes}
-use Rattle.arbiter.specs.Arbitrate.{competingBelow, competing, winnerOf}
+use Rattle.arbiter.specs.Arbitrate.{competingBelow, competing, settlingOf, winnerOf, wonBy, arbitrated}
 use Rattle.arbiter.specs.State.{waits, isCard, linesOf, wellFormed}
 use Rattle.arbiter.specs.declared.RackState.{RackState}
 use Rattle.cards.proofs.Below.{le-or-lt, any-not-none, none-any}
@@ -17,6 +18,7 @@ use Rattle.cards.specs.Below.{anyBelow}
 use Rattle.rules.specs.Rules.{byRule, goesFirst}
 use Rattle.lines.proofs.Stages.{settled-greatest}
 use Rattle.lines.specs.Greatest.{greatest}
+use Rattle.lines.specs.declared.Settled.{Settled}
 
 -- the rules under which each other card is granted at most once during a wait
 abbrev pub FairRule : ℕ → Type 0
@@ -117,3 +119,10 @@ won s ok some = go (formed-of s ok) (top s 64)
           positive = card-positive s f w l card;
           best = λ a q. rw (← p) (reach s 64 a (waiting-below s f a (competitor-waits s a q)) q);
         })
+
+-- so that its settling has a winner
+pub arbitrated-won : (s : RackState) → wellFormed s ≡ true → anyBelow 64 (waits s) ≡ true → arbitrated s ≡ wonBy s (winnerOf s) (settlingOf s)
+unfolding arbitrated
+arbitrated-won s ok some =
+    let done : settlingOf s .answer ≡ 0 = ap (λ (t : Settled). t .answer) (settles s (formed-of s ok)) in
+    rw (done, ne-eqb (winnerOf s) 0 (λ none. omega (arith, none, won s ok some .positive)))

@@ -95,9 +95,13 @@ grantTo s w t = record { state = granted s w; answer = 0; winner = w; lines = t 
 unfoldable pub wonBy : RackState → ℕ → Settled → Outcome
 wonBy s w t = cond (someLoserFull s w) (answered s 16) (grantTo s w t)
 
--- the waiting cards settle; a state whose settling is refused is not well formed
+-- a settling that is not refused and names a card: 0 is no card's number
+abbrev pub hasWinner : ℕ → Settled → Bool
+hasWinner w t = eqb (t .answer) 0 && not (eqb w 0)
+
+-- the waiting cards settle; a state whose settling has no winner is not well formed
 unfoldable pub arbitrated : RackState → Outcome
-arbitrated s = cond (eqb (settlingOf s .answer) 0) (wonBy s (winnerOf s) (settlingOf s)) (answered s 17)
+arbitrated s = cond (hasWinner (winnerOf s) (settlingOf s)) (wonBy s (winnerOf s) (settlingOf s)) (answered s 17)
 
 -- an arbitration: 17, 13, 14 by the stored number of waiting cards, then 16 by the winner
 unfoldable pub arbitrateRefusal : Bool → RackState → ℕ

@@ -66,7 +66,7 @@ pub(crate) fn granted_in(
 }
 
 // The outcome of the settling, which starts from the kept value, on the lent marks. The winner is the settled value modulo 2 ^ k. A state whose
-// settling is refused is not well formed.
+// settling is refused, or names no card, is not well formed.
 pub(crate) fn arbitrated_in(
     hold: Hold,
     k: u8,
@@ -94,9 +94,9 @@ pub(crate) fn arbitrated_in(
         batch,
         inhibited,
     );
-    if t.answer != 0 {
+    let w = (t.lines % span(k)) as u8;
+    if (t.answer != 0) | (w == 0) {
         return quiet(hold, 17);
     }
-    let w = (t.lines % span(k)) as u8;
     granted_in(k, rule, waiting, counts, batch, inhibited, hold, anew, w, t)
 }

@@ -1,1 +1,2 @@
 pub mod Replays
+pub mod Report

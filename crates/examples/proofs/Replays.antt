@@ -27,7 +27,7 @@ use Rattle.promises.specs.Runs.{Event, outcomeOf, after, grants, times, timesOt
 use Rattle.rack.specs.Files.{loadOf}
 
 -- whoever unfolds this computes with the whole machine
-machine : Type 0
+unfoldable pub machine : Type 0
 unfolding below.allBelow below.anyBelow below.sumBelow below.tabulate below.rowsBelow
     table.hasCard table.inTable table.slotIsNew table.numberGood table.slotsGood table.tableGood
     markFits setsFit wellFormed answeredBy requestRefusal releaseRefusal
@@ -40,7 +40,7 @@ unfolding below.allBelow below.anyBelow below.sumBelow below.tabulate below.rows
 machine = Unit
 
 -- and this loads the table
-loading : Type 0
+unfoldable pub loading : Type 0
 unfolding machine file
     format.headerOf format.rangesGood format.layoutGood format.nameByteGood format.nameGood format.entryGood format.nameIsNew format.directoryGood
     format.columnOf format.columnWithin format.valueIsNew format.columnDistinct format.cardsGood format.filledOf

@@ -11,6 +11,7 @@ use lib.Seq.{drop-at}
 use borrow.Author.Tests.{eqb-true, ne-eqb}
 use denote.Triple.Clauses.{atExit}
 use Rattle.arbiter.proofs as arbiter
+use Rattle.arbiter.proofs.Told.{Kept, kept-by, arbitrated-kept}
 use Rattle.arbiter.specs.Lent.{Leaves, marksOf}
 use Rattle.arbiter.specs.State.{wellFormed}
 use Rattle.arbiter.specs.declared.Outcome.{Outcome}
@@ -39,7 +40,6 @@ use Rattle.lines.proofs.Trail.{trail-length}
 use Rattle.lines.specs.Settle.{Settles, refusal, settledOr, writtenOr}
 use Rattle.lines.specs.Settling.{stages, trail}
 use Rattle.lines.specs.declared.Settled.{Settled}
-use Rattle.promises.proofs.States.{Kept, kept-by, arbitrated-kept}
 use Rattle.promises.specs.Buffers.{NoRefusalWrites, NothingBeyond, RefusedGivesZeros}
 use Rattle.rack.proofs as rack
 use Rattle.rack.specs.Files.{saveOf, saveAfter}

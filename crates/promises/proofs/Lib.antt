@@ -15,5 +15,6 @@ pub mod Counts
 pub mod RoundTrip
 pub mod Settling
 pub mod Slowest
+pub mod GrantsCounted
 pub mod WaitingReport
 pub mod Buffers

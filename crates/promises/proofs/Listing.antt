@@ -1,5 +1,5 @@
 -- What `racktrace` prints is the run that the promises speak of, and so demand 3 and what stands in its place hold of a listing's text. Assumes nothing.
-use Prim.Native.Nat.{ℕ, zero, suc, _+_, _-_, _*_, _/_, _≤_, _<_}
+use Prim.Native.Nat.{ℕ, zero, suc, _+_, _-_, _≤_, _<_}
 use native.Mathlib.Nat.{add-zero, add-suc}
 use native.Mathlib.Numerals.{add-one}
 use native.Mathlib.Omega.{arith}
@@ -20,7 +20,7 @@ use Rattle.cards.specs.declared.Table.{Table}
 use Rattle.promises.proofs.Fairness.{fair-rules, batch-rules}
 use Rattle.promises.proofs.Turns.{seen-event}
 use Rattle.promises.specs.Fairness.{AtMost, AtMostOthers}
-use Rattle.promises.specs.Listing.{traceLines, listingLines, listingOf, eventsOf, RunWritesListing, EachLineTells, WinnersAreGrants}
+use Rattle.promises.specs.Listing.{traceLines, listingLines, listingOf, RunWritesListing, EachLineTells, WinnersAreGrants}
 use Rattle.promises.specs.Listing.{WaitsInLines, winnersBetween, ListedAtMost, ListedAtMostOthers, ListedOnce, ListedTwice}
 use Rattle.promises.specs.Runs.{Event, outcomeOf, next, winner, after, grants, WaitsThrough}
 use Rattle.tally.proofs.Effects.{asked-effect, flagAfter}

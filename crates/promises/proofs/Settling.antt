@@ -9,7 +9,7 @@ use lib.ListN.{replicate}
 use lib.Pow.{pow-pos}
 use Rattle.arbiter.proofs.Formed.{Formed, formed-of}
 use Rattle.arbiter.proofs.Numbers.{wide, greatest-fits, settles}
-use Rattle.arbiter.specs.Arbitrate.{competing, settlingOf, winnerOf, someLoserFull, grantTo, wonBy, arbitrated, arbitrateRefusal}
+use Rattle.arbiter.specs.Arbitrate.{competing, settlingOf, winnerOf, someLoserFull, grantTo, wonBy, hasWinner, arbitrated, arbitrateRefusal}
 use Rattle.arbiter.specs.Events.{answered, answeredBy}
 use Rattle.arbiter.specs.State.{linesOf, wellFormed}
 use Rattle.arbiter.specs.declared.Outcome.{Outcome}
@@ -106,7 +106,7 @@ module _ (s : RackState) where
   by-formed false ill = none 17
   by-formed true ok =
       either (eqb (arbitrateRefusal true s) 0)
-      (either (eqb (settlingOf s .answer) 0) (either (someLoserFull s (winnerOf s)) (none 16) (granted-within (formed-of s ok))) (none 17))
+      (either (hasWinner (winnerOf s) (settlingOf s)) (either (someLoserFull s (winnerOf s)) (none 16) (granted-within (formed-of s ok))) (none 17))
       (none (arbitrateRefusal true s))
 
 pub arbitration-within : ArbitrationWithin

@@ -8,17 +8,16 @@ use mathlib.Core.Path.{_≡_, refl, sym, ap, _∙_}
 use lib.Dec.{eqb}
 use Rattle.arbiter.proofs.Formed.{formed-of, of-formed, some-stored, fresh-well-formed}
 use Rattle.arbiter.proofs.Kept.{stays-well-formed}
-use Rattle.arbiter.proofs.Numbers.{settles}
 use Rattle.arbiter.proofs.Seen.{NoGrant, refused, full, asked, handed, Seen, quiet, grant, seen}
-use Rattle.arbiter.specs.Arbitrate.{settlingOf, winnerOf, someLoserFull, grantTo, wonBy, arbitrated, arbitrateRefusal, eventOf}
+use Rattle.arbiter.proofs.Told.{refused-keeps}
+use Rattle.arbiter.proofs.Winner.{arbitrated-won}
+use Rattle.arbiter.specs.Arbitrate.{settlingOf, winnerOf, someLoserFull, grantTo, wonBy, arbitrateRefusal, eventOf}
 use Rattle.arbiter.specs.Events.{answered, answeredBy, requestRefusal, releaseRefusal}
 use Rattle.arbiter.specs.State.{recount, wellFormed, freshOf}
-use Rattle.arbiter.specs.declared.Outcome.{Outcome}
 use Rattle.arbiter.specs.declared.RackState.{RackState}
 use Rattle.cardfile.proofs.LoadedGood.{loaded-good, refused-zero}
 use Rattle.cardfile.specs.Format.{refusedWith}
 use Rattle.cards.specs.Table.{tableGood}
-use Rattle.lines.specs.declared.Settled.{Settled}
 use Rattle.promises.specs.States.{StaysWellFormed, LoadsWellFormed, RefusedEventKeeps, IllFormedRefused, CountKept, CountTold, OnlyFullRefuses}
 use Rattle.promises.specs.Runs.{outcomeOf, next}
 use Rattle.rack.specs.Files.{loadOf}
@@ -33,30 +32,8 @@ loads-well-formed file done = fresh-well-formed (loadOf file .state .table) (loa
 
 -- ---- a refused event
 
--- a refused outcome is the refusal alone
-abbrev pub Kept : RackState → Outcome → Type 0
-Kept s o = o .answer ≢ 0 → o ≡ answered s (o .answer)
-
-either : {s : RackState} (t : Bool) {x y : Outcome} → Kept s x → Kept s y → Kept s (cond t x y)
-either true f g = f
-either false f g = g
-
-pub kept-by : (s : RackState) (n : ℕ) (o : Outcome) → Kept s o → Kept s (answeredBy n s o)
-unfolding answeredBy
-kept-by s n o k = either (eqb n 0) k (λ _. refl)
-
-pub arbitrated-kept : (s : RackState) → Kept s (arbitrated s)
-unfolding arbitrated wonBy
-arbitrated-kept s =
-    either (eqb (settlingOf s .answer) 0) (either (someLoserFull s (winnerOf s)) (λ _. refl) (λ some. absurd (some refl))) (λ _. refl)
-
 pub refused-event-keeps : RefusedEventKeeps
-unfolding eventOf
-refused-event-keeps s e =
-    either (eqb (e .letter) 81) (kept-by s _ _ (λ some. absurd (some refl)))
-    (either (eqb (e .letter) 65) (kept-by s _ _ (arbitrated-kept s))
-    (either (eqb (e .letter) 82) (kept-by s _ _ (λ some. absurd (some refl)))
-    (λ _. refl)))
+refused-event-keeps s e = refused-keeps s (e .letter) (e .number)
 
 -- what the letter selects, for the outcome as for its number
 by-letter : (s : RackState) (q a r : Bool)
@@ -73,10 +50,9 @@ ill-formed-refused s e ill = rw ill (by-letter s (eqb (e .letter) 81) (eqb (e .l
 -- ---- an arbitration
 
 pub only-full-refuses : OnlyFullRefuses
-unfolding answeredBy arbitrateRefusal arbitrated wonBy
+unfolding answeredBy arbitrateRefusal wonBy
 only-full-refuses s ok free some =
-    let done : settlingOf s .answer ≡ 0 = ap (λ (t : Settled). t .answer) (settles s (formed-of s ok)) in
-    rw (ok, free, some-stored s (formed-of s ok) some, done) (by-room (someLoserFull s (winnerOf s)))
+    rw (ok, free, some-stored s (formed-of s ok) some, arbitrated-won s ok some) (by-room (someLoserFull s (winnerOf s)))
   where
     by-room : (full : Bool) → (cond full (answered s 16) (grantTo s (winnerOf s) (settlingOf s)) .answer ≡ 0)
         ⊎ (cond full (answered s 16) (grantTo s (winnerOf s) (settlingOf s)) .answer ≡ 16)

@@ -1,6 +1,10 @@
 // Counts a trace over the rack of the table rack.tab, and writes the waiting report: docs/REPORT.md.
+ghost use mathlib.Core.Bool.{true};
 ghost use mathlib.Core.Path.{_≡_};
+ghost use Rattle.arbiter.specs.Arbitrate.{eventOf};
+ghost use Rattle.arbiter.specs.declared.RackState.{RackState as State};
 ghost use Rattle.tally.specs.Tally.{zeroTally};
+ghost use Rattle.trace.specs.Line.{lineOutcome};
 use arbiter::RackState;
 use libc::STDERR_FILENO;
 use libc::STDIN_FILENO;
@@ -17,7 +21,9 @@ struct Next {
     more: bool,
 }
 
-fn some_event(letter: u8, number: u8) -> Next {
+fn some_event(letter: u8, number: u8) -> Next
+    ensures { λ r. ⌜ r ≡ record { letter = letter; number = number; more = true } ⌝ }
+{
     Next {
         letter,
         number,
@@ -33,8 +39,10 @@ fn no_event() -> Next {
     }
 }
 
-// No event has the letter 0, so that the rack answers a malformed line with 18.
-fn event_of(line: Line) -> Next {
+// The event to count, which the rack answers as it answers the line. No event has the letter 0, so that a malformed line gets 18.
+fn event_of(line: Line) -> Next
+    ensures { λ r. ⌜ ((s : State) → eventOf s (r .letter) (r .number) ≡ lineOutcome s line) ⌝ }
+{
     match line {
         Line::Request(n) => some_event(b'Q', n),
         Line::Arbitrate => some_event(b'A', 0),

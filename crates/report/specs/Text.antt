@@ -8,8 +8,9 @@ use Rattle.cards.specs.Below.{rowsBelow}
 use Rattle.cards.specs.Table.{hasCard}
 use Rattle.report.specs.declared.CardLine.{CardLine}
 
--- n in so many decimal digits, with zeros in front: where it has more, the last of them. In a report none has more: the figures are at most 65,535,
--- the grants squared below 10 ^ 10, and grants times squares below 10 ^ 15.
+-- n in so many decimal digits, with zeros in front: where it has more, the last of them. In a report none has more. At most 65,535 events are counted,
+-- and 41 refuses figures that exceed them and a sum of squares that exceeds their square: so grants and sum are at most 65,535, the sum of squares and
+-- the grants squared at most 65,535 ^ 2 = 4,294,836,225, which has ten digits, and grants times squares is below 10 ^ 15.
 unfoldable pub digitsOf : ℕ → ℕ → List ℕ
 digitsOf zero n = []
 digitsOf (suc width) n = digitsOf width (n / 10) ++ ((n % 10 + 48) ∷ [])
@@ -32,12 +33,13 @@ newline = 10 ∷ []
 unfoldable pub openingText : ℕ → ℕ → ℕ → ℕ → ℕ → ℕ → List ℕ
 openingText a b c d answer events = (a ∷ b ∷ c ∷ d ∷ []) ++ spaced 2 answer ++ spaced 5 events ++ newline
 
--- SS NN GGGGG WWWWW/GGGGG VVVVVVVVVVVVVVV/DDDDDDDDDD
+-- SS NN GGGGG WWWWW/GGGGG QQQQQQQQQQ VVVVVVVVVVVVVVV/DDDDDDDDDD: slot, number, grants, the mean wait, the sum of squared waits, the variance
 unfoldable pub cardText : ℕ → ℕ → CardLine → List ℕ
 cardText slot number card =
     digitsOf 2 slot ++ spaced 2 number
     ++ spaced 5 (card .grants)
     ++ spaced 5 (card .sum) ++ over 5 (card .grants)
+    ++ spaced 10 (card .squares)
     ++ spaced 15 (card .numerator) ++ over 10 (card .denominator)
     ++ newline
 

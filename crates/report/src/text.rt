@@ -33,17 +33,18 @@ pub fn opening(a: u8, b: u8, c: u8, d: u8, answer: u8, events: u16) -> [u8; 14]
     line
 }
 
-// A card's line: its slot and number, its grants, its mean wait and its variance.
-pub fn card_text(slot: u8, number: u8, card: CardLine) -> [u8; 51]
+// A card's line: its slot and number, its grants, its mean wait, the sum of its squared waits, and its variance.
+pub fn card_text(slot: u8, number: u8, card: CardLine) -> [u8; 62]
     ensures { λ r. ⌜ r ≡ cardText slot number card ⌝ }
 {
-    let mut line = *b"00 00 00000 00000/00000 000000000000000/0000000000\n";
+    let mut line = *b"00 00 00000 00000/00000 0000000000 000000000000000/0000000000\n";
     put_digits(&mut line, 0, 2, slot as u64);
     put_digits(&mut line, 3, 2, number as u64);
     put_digits(&mut line, 6, 5, card.grants as u64);
     put_digits(&mut line, 12, 5, card.sum as u64);
     put_digits(&mut line, 18, 5, card.grants as u64);
-    put_digits(&mut line, 24, 15, card.numerator);
-    put_digits(&mut line, 40, 10, card.denominator);
+    put_digits(&mut line, 24, 10, card.squares);
+    put_digits(&mut line, 35, 15, card.numerator);
+    put_digits(&mut line, 51, 10, card.denominator);
     line
 }

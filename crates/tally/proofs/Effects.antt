@@ -12,9 +12,9 @@ use borrow.Author.Tests.{eqb-true, eqb-false, eq-eqb, lt-ltb}
 use Rattle.cards.proofs.TableKnown.{table-range}
 use Rattle.lines.specs.declared.Settled.{Settled}
 use Rattle.arbiter.proofs.Formed.{Formed, formed-of, some-wait}
-use Rattle.arbiter.proofs.Numbers.{competitor-waits, settles}
+use Rattle.arbiter.proofs.Numbers.{competitor-waits}
 use Rattle.arbiter.proofs.Refusals.{may-request, may-release, MayArbitrate, may-arbitrate}
-use Rattle.arbiter.proofs.Winner.{Won, won}
+use Rattle.arbiter.proofs.Winner.{Won, won, arbitrated-won}
 use Rattle.arbiter.specs.Arbitrate.{someLoserFull, granted, grantTo, settlingOf, winnerOf, wonBy, arbitrated, arbitrateRefusal, arbitrateOf}
 use Rattle.arbiter.specs.Events.{answered, answeredBy, requested, requestRefusal, requestOf, released, releaseRefusal, releaseOf}
 use Rattle.rules.specs.Marks.{isIn}
@@ -116,13 +116,12 @@ module _ (s : RackState) (h : arbitrateOf s .answer ≡ 0) where
   wins = may-arbitrate (wellFormed s) s (done-open (arbitrateRefusal (wellFormed s) s) s (arbitrated s) h)
 
   to-winner : arbitrateOf s ≡ grantTo s (winnerOf s) (settlingOf s)
-  unfolding arbitrated wonBy
+  unfolding wonBy
   to-winner =
       let ahead : arbitrateOf s ≡ arbitrated s =
       open-is (arbitrateRefusal (wellFormed s) s) s (arbitrated s) (done-open (arbitrateRefusal (wellFormed s) s) s (arbitrated s) h)
       in
-      let done : settlingOf s .answer ≡ 0 = ap (λ (t : Settled). t .answer) (settles s (formed-of s (wins .told))) in
-      let by-settling : arbitrated s ≡ wonBy s (winnerOf s) (settlingOf s) = rw done in
+      let by-settling = arbitrated-won s (wins .told) (some-wait s (formed-of s (wins .told)) (wins .some)) in
       ahead ∙ by-settling ∙ not-full (someLoserFull s (winnerOf s)) s (winnerOf s) (settlingOf s) (sym (ap (λ (o : Outcome). o .answer) (ahead ∙ by-settling)) ∙ h)
 
   pub granted-known : Granted s (arbitrateOf s)

@@ -1,7 +1,7 @@
 -- From a fresh state, a zero tally and a zero square, through any events: the figures are those worked out from the whole history. Assumes nothing.
-use Prim.Native.Nat.{ℕ, _+_, _≤_, _<_}
+use Prim.Native.Nat.{ℕ, _+_, _<_}
 use native.Mathlib.Omega.{arith}
-use mathlib.Core.Bool.{Bool, true, false, cond, not, _&&_, _||_}
+use mathlib.Core.Bool.{Bool, true, false, cond, _&&_}
 use mathlib.Core.List.{List, [], _∷_}
 use mathlib.Core.Path.{_≡_, refl, sym, ap, _∙_}
 use lib.Dec.{eqb}
@@ -9,10 +9,11 @@ use lib.ListN.{length, getD, set, replicate, length-set, length-replicate, getD-
 use lib.Seq.{getD-set-same, getD-set-other}
 use borrow.Author.Tests.{eqb-true, eqb-false, eq-eqb, le-leb}
 use Rattle.cards.proofs.Below.{all-each, tabulate-at}
-use Rattle.cards.specs.Below.{allBelow, tabulate}
+use Rattle.cards.specs.Below.{tabulate}
 use Rattle.cards.specs.declared.Table.{Table}
 use Rattle.arbiter.specs.Arbitrate.{arbitrateOf, eventOf}
 use Rattle.arbiter.specs.Events.{answered, requestOf, releaseOf}
+use Rattle.arbiter.specs.Runs.{Event}
 use Rattle.arbiter.specs.State.{waits}
 use Rattle.arbiter.specs.declared.Outcome.{Outcome}
 use Rattle.arbiter.specs.declared.RackState.{RackState}
@@ -21,7 +22,7 @@ use Rattle.tally.proofs.Happenings.{Follows, sound-more, pending-more, 
 use Rattle.tally.proofs.History.{Sound, left-at-most, figures-pass}
 use Rattle.tally.proofs.Laws.{counts}
 use Rattle.tally.specs.History.{Happening, asked, granted, released, pending, waitsOf, leftWaiting, total, totalSquares, figuresFrom}
-use Rattle.tally.specs.Ledger.{Ledger, start, happened, pastAfter, next, Counting, run}
+use Rattle.tally.specs.Ledger.{Ledger, start, happened, next, run}
 use Rattle.tally.specs.Tally.{Square, noFigures, figuresOf, rowOf, entryOf, cardGood, entryGood, rowGood, tallyGood, countedAnswer}
 use Rattle.tally.specs.Tally.{askedFigures, grantedFigures, figuresAfter, cardAfter, tallyAfter, rowAfter, rowsAfter, isGrant, squareAfter, countedBy, countedOf}
 use Rattle.tally.specs.declared.Figures.{Figures}
@@ -35,7 +36,7 @@ pub record True (g : Ledger) : Type 0 where
   pub rows : (b : ℕ) → b < 64 → length (rowOf (g .square) b) ≡ 64
   pub sound : Sound (g .past)
 
-true-start : (t : Table) → True (start t)
+pub true-start : (t : Table) → True (start t)
 unfolding pending waitsOf leftWaiting Sound total totalSquares
 true-start t = record {
   events = refl;
@@ -176,33 +177,33 @@ module _ (g : Ledger) (letter a : ℕ) (t : True g) where
   unfolding next countedOf countedBy squareAfter answer
   next-refused e = rw (e, e) t
 
-  true-next : True (next g letter a)
+  pub true-next : True (next g letter a)
   true-next = by-case (eqb answer 0) refl
     where
       by-case : (v : Bool) → eqb answer 0 ≡ v → True (next g letter a)
       by-case true e = next-done e
       by-case false e = next-refused e
 
-pub true-run : (g : Ledger) (es : List Counting) → True g → True (run g es)
+pub true-run : (g : Ledger) (es : List Event) → True g → True (run g es)
 unfolding run
 true-run g [] t = t
 true-run g (e ∷ es) t = true-run (next g (e .letter) (e .number)) es (true-next g (e .letter) (e .number) t)
 
 -- ---- what holds after any events
 
-module _ (t : Table) (es : List Counting) where
-  abbrev now : Ledger
-  now = run (start t) es
+-- what 41 tests holds of figures that agree with a history
+pub true-good : (g : Ledger) → True g → tallyGood (g .tally) (g .square) ≡ true
+unfolding tallyGood
+true-good g known =
+    rw (
+      all-each 64 (cardGood (g .tally)) (λ b l. rw (known .events, known .cards b l) (figures-pass b (g .past) (known .sound))),
+      all-each 64 (rowGood (g .tally .events) (g .square)) (λ b l. all-each 64 (entryGood (g .tally .events) (rowOf (g .square) b)) (λ c m.
+          le-leb (entryOf (g .square) b c) (g .tally .events) (omega (arith, known .events, known .entries b c l m, left-at-most b c (g .past))))),
+    )
 
-  pub true-now : True now
+module _ (t : Table) (es : List Event) where
+  pub true-now : True (run (start t) es)
   true-now = true-run (start t) es (true-start t)
 
-  -- what 41 tests holds
-  pub stays-good : tallyGood (now .tally) (now .square) ≡ true
-  unfolding tallyGood
-  stays-good =
-      rw (
-        all-each 64 (cardGood (now .tally)) (λ b l. rw (true-now .events, true-now .cards b l) (figures-pass b (now .past) (true-now .sound))),
-        all-each 64 (rowGood (now .tally .events) (now .square)) (λ b l. all-each 64 (entryGood (now .tally .events) (rowOf (now .square) b)) (λ c m.
-            le-leb (entryOf (now .square) b c) (now .tally .events) (omega (arith, true-now .events, true-now .entries b c l m, left-at-most b c (now .past))))),
-      )
+  pub stays-good : tallyGood (run (start t) es .tally) (run (start t) es .square) ≡ true
+  stays-good = true-good (run (start t) es) true-now

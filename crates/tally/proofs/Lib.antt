@@ -7,5 +7,6 @@ pub mod History
 pub mod Happenings
 pub mod Ledger
 pub mod Kept
+pub mod SameRun
 pub mod Walked
 pub mod Determined

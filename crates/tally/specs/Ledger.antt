@@ -3,11 +3,12 @@ use Prim.Native.Nat.{ℕ}
 use mathlib.Core.Bool.{cond}
 use mathlib.Core.List.{List, [], _∷_}
 use lib.Dec.{eqb}
-use Rattle.cards.specs.declared.Table.{Table}
 use Rattle.arbiter.specs.Arbitrate.{byLetter}
+use Rattle.arbiter.specs.Runs.{Event, outcomeOf}
 use Rattle.arbiter.specs.State.{freshOf}
 use Rattle.arbiter.specs.declared.Outcome.{Outcome}
 use Rattle.arbiter.specs.declared.RackState.{RackState}
+use Rattle.cards.specs.declared.Table.{Table}
 use Rattle.tally.specs.History.{Happening, asked, granted, released, History}
 use Rattle.tally.specs.Tally.{Square, squareAfter, countedOf, zeroTally, zeroSquare}
 use Rattle.tally.specs.declared.Tally.{Tally}
@@ -40,11 +41,15 @@ next g letter a =
       past = pastAfter letter a (c .outcome) (g .past);
     }
 
--- through any events, each a letter and a number, in their order
-pub record Counting : Type 0 where
-  pub letter : ℕ
-  pub number : ℕ
-
-unfoldable pub run : Ledger → List Counting → Ledger
+-- through any events, in their order
+unfoldable pub run : Ledger → List Event → Ledger
 run g [] = g
 run g (e ∷ es) = run (next g (e .letter) (e .number)) es
+
+-- the history of the rack's own run, with no tally beside it: what the done events add to a past
+unfoldable pub historyFrom : History → RackState → List Event → History
+historyFrom past s [] = past
+historyFrom past s (e ∷ es) = historyFrom (pastAfter (e .letter) (e .number) (outcomeOf s e) past) (outcomeOf s e .state) es
+
+abbrev pub historyOf : RackState → List Event → History
+historyOf s es = historyFrom [] s es

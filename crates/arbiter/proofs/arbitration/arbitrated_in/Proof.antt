@@ -1,27 +1,40 @@
--- `arbiter::arbitration::arbitrated_in` meets its contract: by what the settling of the competing cards answers. Assumes nothing.
+-- `arbiter::arbitration::arbitrated_in` meets its contract: by what the settling of the competing cards answers, and whom it names. Assumes nothing.
 use Prim.Native.Nat.{ℕ, _%_, _<_}
 use native.Mathlib.Nat.{mod-lt}
 use native.Mathlib.Omega.{arith}
-use mathlib.Core.Bool.{not}
+use mathlib.Core.Bool.{Bool, true, false, not, _&&_, _||_, false≢true, true≢false}
 use mathlib.Core.List.{List}
-use mathlib.Core.Path.{_≡_, refl, ap, _∙_}
+use mathlib.Core.Path.{_≡_, refl, sym, ap, _∙_, subst}
+use lib.Dec.{eqb}
 use borrow.Author.Needs.{needs}
 use Rattle.arbiter.proofs.Laws.{shown-settles}
 use Rattle.arbiter.proofs.Leaving.{leaves-unsettled, leaves-settled}
 use Rattle.arbiter.proofs.arbitration.arbitrated_in.Statement.{statement}
 use Rattle.arbiter.proofs.arbitration.arbitrated_in.Tie as tie
-use Rattle.arbiter.specs.Arbitrate.{somePreferred, settlingOf, valueNow}
+use Rattle.arbiter.specs.Arbitrate.{somePreferred, settlingOf, valueNow, winnerOf}
 use Rattle.arbiter.specs.Lent.{stateOf, tableOf}
 use Rattle.arbiter.specs.declared.RackState.{RackState}
 use Rattle.cards.specs.declared.Table.{Table}
+use Rattle.lines.proofs.Silent.{Alike}
 use Rattle.rules.proofs.Laws.{span-of}
 use Rattle.rules.specs.Marks.{Marks, marks}
 use Rattle.lines.specs.declared.Settled.{Settled}
 
--- the state, whatever the slots are, and its settling
-module _ (c : tie.After-settling-of) (slots : List ℕ) where
+-- the test is the definition's
+no-winner : (a b : Bool) → (not a || b) ≡ true → (a && not b) ≡ false
+no-winner true true e = refl
+no-winner true false e = absurd (false≢true e)
+no-winner false b e = refl
+
+a-winner : (a b : Bool) → (not a || b) ≡ false → (a && not b) ≡ true
+a-winner true true e = absurd (true≢false e)
+a-winner true false e = refl
+a-winner false b e = absurd (true≢false e)
+
+-- the state, whatever the slots are, its settling, and the winner
+module _ (c : tie.After-span) (slots : List ℕ) where
   abbrev told : tie.After-some-first
-  told = c .before .before .before .before .before
+  told = c .before .before .before .before .before .before
 
   abbrev given : tie.Start
   given = told .before .before .before .before
@@ -35,37 +48,44 @@ module _ (c : tie.After-settling-of) (slots : List ℕ) where
   abbrev state : RackState
   state = stateOf table lent (given .args .hold)
 
+  abbrev result : Settled
+  result = c .before .settling-of .result
+
   anew : not (told .some-first .result) ≡ not (somePreferred state)
   unfolding somePreferred
   anew = ap not (told .some-first .ensures)
 
-  settled : c .settling-of .result ≡ settlingOf state
-  settled = c .settling-of .ensures ∙ shown-settles state _ anew (given .pre .0)
+  settled : Alike result (settlingOf state)
+  settled = subst (λ (t : Settled). Alike t (settlingOf state)) (sym (c .before .settling-of .ensures)) (shown-settles state _ anew (given .pre .0))
 
-  value : c .settling-of .result .lines ≡ valueNow state
+  value : result .lines ≡ valueNow state
   unfolding valueNow
-  value = ap (λ (t : Settled). t .lines) settled
+  value = settled .lines
+
+  winner : result .lines % c .span .result ≡ winnerOf state
+  winner = λ i. settled .lines i % (c .span .ensures .0 ∙ span-of (given .args .k) (given .pre .0)) i
+
+-- the winner is below the span
+small : (c : tie.After-span) → c .before .settling-of .result .lines % c .span .result < 64
+small c = omega (arith, mod-lt (c .before .settling-of .result .lines) (c .span .ensures .1 .0), c .span .ensures .1 .1)
 
 returns : tie.Need-returns
 returns c slots =
-    let before = c .before .before .before in
+    let named = c .before .before .before .before in
     rw (c .quiet .ensures)
-    (leaves-unsettled (table before slots) (lent before slots) _ (before .settling-of .result) (settled before slots) (c .before .if1 .taken))
-
--- the winner is below the span
-small : (c : tie.After-span) → c .before .before .before .settling-of .result .lines % c .span .result < 64
-small c = omega (arith, mod-lt (c .before .before .before .settling-of .result .lines) (c .span .ensures .1 .0), c .span .ensures .1 .1)
+    (leaves-unsettled (table named slots) (lent named slots) _ (result named slots) (settled named slots) _ (winner named slots)
+    (no-winner (eqb (result named slots .answer) 0) (eqb (result named slots .lines % named .span .result) 0) (c .before .if1 .taken)))
 
 granted-in-requires : tie.Need-granted-in-requires
-granted-in-requires c κs = (small (c .before .before .before .before .before), search needs)
+granted-in-requires c κs = (small (c .before .before .before .before .before .before .before), search needs)
 
 returns-2 : tie.Need-returns-2
 returns-2 c slots =
-    let spanned = c .before .before .before .before .before .before in
-    let before = spanned .before .before .before in
-    leaves-settled (table before slots) (lent before slots) _ (before .settling-of .result) (settled before slots) (spanned .before .if1 .left)
-    (rw (spanned .span .ensures .0 ∙ span-of _ (given before slots .pre .0))
-    at (c .granted-in .ensures slots (state before slots) refl (anew before slots) (value before slots)))
+    let free = c .before .before .before .before .before in
+    let named = free .before .before .before in
+    leaves-settled (table named slots) (lent named slots) _ (result named slots) (settled named slots) _ (winner named slots)
+    (a-winner (eqb (result named slots .answer) 0) (eqb (result named slots .lines % named .span .result) 0) (free .if1 .left))
+    (c .granted-in .ensures slots (state named slots) refl (anew named slots) (value named slots))
 
 pub arbitrated-in-spec : {M : Type 1} → statement M
 arbitrated-in-spec =
@@ -74,9 +94,9 @@ arbitrated-in-spec =
     (λ c κs. search needs)
     (λ c κs. search needs)
     (λ c κs. search needs)
-    returns
-    (λ c κs. search needs)
     (λ c. search needs)
     (λ c. omega (arith, small (c .before)))
+    (λ c κs. search needs)
+    returns
     granted-in-requires
     returns-2)
