@@ -74,6 +74,11 @@ static const struct screen_number screen_numbers[] = {
     {31, "65,535 or more done events are already counted",
      "The report holds for the first 65,535 done events and says nothing of what came later. To "
      "see that too, report on shorter traces, each from the start of the rack."},
+    {32, "next winner asked for under a rule that isn't round-robin",
+     "The panel can say who is next only under round-robin, rule 1. Look at the rule with racklap "
+     "table. If the rack should be round-robin, its table is wrong in byte 5: fetch the one that "
+     "belongs to this rack. If the rule is right, the rack is well: set the panel not to ask, and "
+     "see in the listing who wins."},
     {41,
      "as given, a count, sum, running wait or entry exceeds the events counted, a sum of squares "
      "exceeds their square, or a variance would be negative",

@@ -1,7 +1,7 @@
 //! An independent reading of the rack's rules, and the means to hold the product against it.
 //!
-//! The reference is `settling`, `intervals`, `rules`, `table`, `rack`, `listing`, `waiting`, `figures`, `waiting_report`, `seen_from_c` and
-//! `seen_as_bytes`. The product is reached through `entries`, `racktrace`, `rackreport` and `rackstate` alone.
+//! The reference is `settling`, `intervals`, `rules`, `table`, `rack`, `next_winner`, `listing`, `waiting`, `figures`, `waiting_report`,
+//! `seen_from_c` and `seen_as_bytes`. The product is reached through `entries`, `racktrace`, `rackreport` and `rackstate` alone.
 
 pub mod entries;
 pub mod figures;
@@ -9,6 +9,7 @@ pub mod folder;
 pub mod intervals;
 pub mod judge;
 pub mod listing;
+pub mod next_winner;
 pub mod rack;
 pub mod rackreport;
 pub mod rackstate;

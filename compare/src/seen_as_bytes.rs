@@ -1,5 +1,6 @@
 //! The reference behind the same records that the product's `rackstate` takes and gives.
 
+use crate::next_winner::next_winner;
 use crate::rack::{Bus, Event, Outcome, Rack};
 use crate::table::{self, Table};
 
@@ -13,8 +14,8 @@ pub const ANSWER: usize = STATE + 5;
 
 const LENT: u8 = 0xee;
 
-/// What is asked of a state: an event by its letter, S for a save to so many bytes, or N for how many
-/// cards wait.
+/// What is asked of a state: an event by its letter, S for a save to so many bytes, N for how many
+/// cards wait, or W for who is next.
 #[derive(Clone, Copy, Debug, PartialEq, Eq)]
 pub struct Ask {
     pub letter: u8,
@@ -110,17 +111,19 @@ pub fn answer(record: &[u8]) -> Vec<u8> {
             letter: b'S',
             number,
         } => save(&rack, usize::from(number)),
-        Ask { letter: b'N', .. } => waiting_count(&rack),
+        Ask { letter: b'N', .. } => told(&rack, rack.waiting_count()),
+        Ask { letter: b'W', .. } => told(&rack, next_winner(&rack)),
         ask => event(&rack, ask),
     }
 }
 
-fn waiting_count(rack: &Rack) -> Vec<u8> {
-    let (number, count) = match rack.waiting_count() {
-        Ok(count) => (0, count),
+/// The answer to a question, which changes nothing.
+fn told(rack: &Rack, what: Result<u8, u32>) -> Vec<u8> {
+    let (number, told) = match what {
+        Ok(told) => (0, told),
         Err(refusal) => (refusal as u8, 0),
     };
-    [state_bytes(rack), vec![number, count, 0, 0, 0]].concat()
+    [state_bytes(rack), vec![number, told, 0, 0, 0]].concat()
 }
 
 fn event(rack: &Rack, ask: Ask) -> Vec<u8> {

@@ -29,21 +29,24 @@ fn keeps_counting(record: &[u8], got: &[u8]) -> Result<(), String> {
         .map_err(|what| format!("cards that wait: {what}; record of {}", shown(record)))
 }
 
-/// Puts records to both in one go and gives the answers, which agree byte for byte.
+/// Puts records to both in one go and gives the product's answers, with which the reference's agree
+/// byte for byte.
 pub fn hold(program: &Shared, records: &[Vec<u8>], met: &mut Met) -> Result<Vec<Vec<u8>>, String> {
     let length = records.iter().map(|record| answer_length(record)).sum();
     let by_reference = || -> Vec<Vec<u8>> { records.iter().map(|record| answer(record)).collect() };
     let (printed, wanted) = program.answers(&records.concat(), length, by_reference)?;
     let mut rest = &printed[..];
+    let mut answers = Vec::new();
     for (record, wanted) in records.iter().zip(&wanted) {
         let (got, after) = rest.split_at(wanted.len());
         same(record, got, wanted)
             .and_then(|()| keeps_counting(record, got))
             .inspect_err(|_| program.end())?;
         met.meet(number_of(got));
+        answers.push(got.to_vec());
         rest = after;
     }
-    Ok(wanted)
+    Ok(answers)
 }
 
 /// Both give the stated number; gives their answer.

@@ -3,8 +3,8 @@
 use std::collections::BTreeMap;
 
 /// The numbers that the product can show.
-const NUMBERS: [u32; 22] = [
-    1, 2, 3, 4, 5, 6, 7, 8, 11, 12, 13, 14, 15, 16, 17, 18, 21, 22, 23, 24, 25, 31,
+const NUMBERS: [u32; 23] = [
+    1, 2, 3, 4, 5, 6, 7, 8, 11, 12, 13, 14, 15, 16, 17, 18, 21, 22, 23, 24, 25, 31, 32,
 ];
 
 pub struct Met {

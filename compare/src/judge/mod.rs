@@ -16,6 +16,7 @@ pub mod named_reports;
 pub mod named_settlings;
 pub mod named_tables;
 pub mod named_traces;
+pub mod next_winners;
 pub mod reports;
 pub mod settlings;
 pub mod small_racks;
@@ -71,6 +72,7 @@ pub fn groups(sizes: &Sizes) -> Vec<Group> {
         Group::once("known traces", named_traces::kinds()),
         Group::once("known reports", named_reports::kinds()),
         Group::once("well-formed states", well_formed::kinds(&program)),
+        Group::once("next winners", next_winners::kinds(&program)),
         Group::once("exhaustive", exhaustive::kinds()),
         Group::once("small racks", small_racks::kinds()),
         Group::of("settlings", sizes.settlings, settlings::kinds()),

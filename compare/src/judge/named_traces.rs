@@ -9,7 +9,7 @@ use super::traces::{hold, same};
 use crate::listing::{self, TRACE_LINE};
 use crate::racktrace;
 
-const WORKED_LISTING: &str = "\
+pub const WORKED_LISTING: &str = "\
 Q 02 00 00 0000 00
 Q 05 00 00 0000 00
 Q 06 00 00 0000 00
@@ -97,7 +97,7 @@ A 00 00 05 0005 02
 ";
 
 /// The trace of a listing is the first four characters of each line.
-fn trace_of(listing: &str) -> Vec<u8> {
+pub fn trace_of(listing: &str) -> Vec<u8> {
     let lines = listing.lines().map(|line| format!("{}\n", &line[..4]));
     lines.collect::<String>().into_bytes()
 }
@@ -135,6 +135,7 @@ fn malformed() -> Vec<Kind> {
         ("blank-line", "Q 02\n\nQ 05\n"),
         ("lower-case-letter", "Q 02\nq 05\n"),
         ("letter-u", "Q 02\nU 05\n"),
+        ("letter-w", "Q 02\nW 00\n"),
         ("tab-for-a-space", "Q 02\nQ\t05\n"),
         ("arbitrate-01", "Q 02\nA 01\n"),
         ("arbitrate-10", "Q 02\nA 10\n"),
@@ -197,26 +198,23 @@ fn unreadable_table() -> Result<(), String> {
     same(&printed, b"tab. 01 00 0000 00\n")
 }
 
+/// The listings that are written out here, each with its table.
+fn written() -> [(&'static str, Vec<u8>, &'static str); 5] {
+    let under = |rule| file_with(3, rule, &[(2, 1), (5, 2), (6, 3), (7, 4)]);
+    [
+        ("worked-listing", WORKED_TABLE.to_vec(), WORKED_LISTING),
+        ("P8-listing", under(0), P8_LISTING),
+        ("P10-listing", under(2), P10_LISTING),
+        ("batch-listing", under(3), BATCH_LISTING),
+        ("inhibit-listing", under(4), INHIBIT_LISTING),
+    ]
+}
+
 pub fn kinds() -> Vec<Kind> {
-    let mut kinds = Vec::new();
-    kinds.extend(listed(
-        "worked-listing",
-        WORKED_TABLE.to_vec(),
-        WORKED_LISTING,
-    ));
-    let cards = [(2, 1), (5, 2), (6, 3), (7, 4)];
-    kinds.extend(listed("P8-listing", file_with(3, 0, &cards), P8_LISTING));
-    kinds.extend(listed("P10-listing", file_with(3, 2, &cards), P10_LISTING));
-    kinds.extend(listed(
-        "batch-listing",
-        file_with(3, 3, &cards),
-        BATCH_LISTING,
-    ));
-    kinds.extend(listed(
-        "inhibit-listing",
-        file_with(3, 4, &cards),
-        INHIBIT_LISTING,
-    ));
+    let listings = written().into_iter();
+    let mut kinds: Vec<Kind> = listings
+        .flat_map(|(name, file, stated)| listed(name, file, stated))
+        .collect();
     kinds.push(Kind::named("worked-listing-line-by-line", |met| {
         converse(&WORKED_TABLE, &trace_of(WORKED_LISTING), || TRACE_LINE, met)
     }));
@@ -227,4 +225,19 @@ pub fn kinds() -> Vec<Kind> {
     kinds.extend(malformed());
     kinds.extend(slips());
     kinds
+}
+
+#[cfg(test)]
+mod tests {
+    use super::{trace_of, written};
+    use crate::judge::traces::same;
+    use crate::listing::listing;
+
+    #[test]
+    fn the_reference_lists_as_written() {
+        for (name, file, stated) in written() {
+            let listed = listing(Some(&file), &trace_of(stated));
+            assert_eq!(same(&listed, stated.as_bytes()), Ok(()), "{name}");
+        }
+    }
 }

@@ -107,14 +107,16 @@ fn lent(rack: &Rack, rng: &mut Rng) -> u8 {
 fn unknown_letter(rng: &mut Rng) -> u8 {
     loop {
         let any = rng.byte();
-        let letter = *rng.pick(&[b'q', b'a', b'r', b's', b'n', b'P', b'B', 0, 255, any]);
-        if !b"QARSN".contains(&letter) {
+        let letter = *rng.pick(&[
+            b'q', b'a', b'r', b's', b'n', b'w', b'P', b'B', b'V', b'X', 0, 255, any,
+        ]);
+        if !b"QARSNW".contains(&letter) {
             return letter;
         }
     }
 }
 
-/// Each event, a save, how many wait, and an unknown letter, in any order.
+/// Each event, a save, how many wait, who is next, and an unknown letter, in any order.
 pub fn asks(rack: &Rack, rng: &mut Rng) -> Vec<Ask> {
     let any = rng.byte();
     let mut asks = [
@@ -123,6 +125,7 @@ pub fn asks(rack: &Rack, rng: &mut Rng) -> Vec<Ask> {
         (b'R', card(rack, rng)),
         (b'S', lent(rack, rng)),
         (b'N', *rng.pick(&[0, any])),
+        (b'W', *rng.pick(&[0, any])),
         (unknown_letter(rng), card(rack, rng)),
     ]
     .map(|(letter, number)| Ask { letter, number });

@@ -6,6 +6,7 @@ use super::expect::expect;
 use super::guarded::noise;
 use super::kind::Kind;
 use super::met::Met;
+use super::next_winners::{after_every_winner, hold_foretelling};
 use super::state_faults::{faults, Fault};
 use super::state_maker::{asks, sound, to_be_renewed};
 use crate::rack::Rack;
@@ -50,9 +51,12 @@ fn hold_refusing(
 ) -> Result<(), String> {
     expect(rack.is_well_formed(), false)?;
     let records = records(rack, rng);
-    for (record, answer) in records.iter().zip(hold(program, &records, met)?) {
+    for (record, answer) in records
+        .iter()
+        .zip(hold_foretelling(program, &records, met)?)
+    {
         let stated = match ask(record).letter {
-            b'Q' | b'A' | b'R' | b'S' | b'N' => 17,
+            b'Q' | b'A' | b'R' | b'S' | b'N' | b'W' => 17,
             _ => 18,
         };
         expect(number_of(&answer), stated)?;
@@ -66,7 +70,7 @@ fn well_formed(rule: u8, program: &Shared) -> Kind {
     Kind::new(name, 20, move |rng, met| {
         let rack = sound(rule, rng);
         expect(rack.is_well_formed(), true)?;
-        let answers = hold(&program, &records(&rack, rng), met)?;
+        let answers = hold_foretelling(&program, &records(&rack, rng), met)?;
         expect(answers.iter().any(|answer| number_of(answer) == 17), false)
     })
 }
@@ -123,7 +127,7 @@ fn faults_together(program: &Shared) -> Kind {
             let (_, fault) = *rng.pick(&faults());
             fault(&mut rack, rng);
         }
-        hold(&program, &records(&rack, rng), met).map(|_| ())
+        hold_foretelling(&program, &records(&rack, rng), met).map(|_| ())
     })
 }
 
@@ -147,7 +151,7 @@ fn noisy(program: &Shared) -> Kind {
     let program = program.clone();
     Kind::new("state-of-noise", 4, move |rng, met| {
         let rack = rack(&noise(STATE, rng));
-        hold(&program, &records(&rack, rng), met).map(|_| ())
+        hold_foretelling(&program, &records(&rack, rng), met).map(|_| ())
     })
 }
 
@@ -194,6 +198,7 @@ pub fn kinds(program: &Shared) -> Vec<Kind> {
         .collect();
     kinds.extend((0..=GREATEST_RULE).map(|rule| run(rule, program)));
     kinds.extend([3, 4].map(|rule| renewing(rule, program)));
+    kinds.push(after_every_winner(program));
     kinds.extend(faults().into_iter().map(|fault| ill_formed(fault, program)));
     kinds.extend([faults_together(program), spoilt(program), noisy(program)]);
     kinds.extend([in_one_go(), in_pieces()]);

@@ -5,6 +5,7 @@ use super::expect::expect;
 use super::kind::Kind;
 use super::met::Met;
 use super::named_tables::{file_with, WORKED_TABLE};
+use super::next_winners::NEXT;
 use crate::rack::{Bus, Rack};
 use crate::rackstate::Shared;
 use crate::seen_as_bytes::{self, Ask};
@@ -19,9 +20,9 @@ const COUNT: Ask = Ask {
     number: 0,
 };
 
-/// Three events, one of them by a number that no table has, a save with enough bytes, and how many
-/// cards wait.
-const ASKED: [Ask; 6] = [
+/// Three events, one of them by a number that no table has, a save with enough bytes, how many cards
+/// wait, and who is next, under each rule that a fault comes with.
+const ASKED: [Ask; 7] = [
     Ask {
         letter: b'Q',
         number: 2,
@@ -40,6 +41,7 @@ const ASKED: [Ask; 6] = [
         number: 30,
     },
     COUNT,
+    NEXT,
 ];
 
 /// The number of waiting cards follows.

@@ -27,3 +27,6 @@ arbitrate-in-determined κ a x y b c p q =
     let reply = one-result (p .left [] .reply) (q .left [] .reply) in
     let left = one-result (p .left [] .marks-left) (q .left [] .marks-left) in
     (reply, λ i. (tt, (tt, (tt, (left i .waiting, (left i .counts, (left i .batch, (left i .inhibited, (tt, tt)))))))))
+
+pub next-in-determined : Determined arbiter.«next_in».ended arbiter.«next_in».Reads.Learnt
+next-in-determined κ a x y b c p q = (one-result (p .told [] [] [] []) (q .told [] [] [] []), refl)

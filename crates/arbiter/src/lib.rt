@@ -2,6 +2,7 @@
 // the state is well formed, since events keep it so. Each event is told that, and refuses with 17 where it is told no.
 ghost use mathlib.Core.Path.{_≡_};
 ghost use Rattle.arbiter.specs.Lent.{stateOf, Requests, Releases, Arbitrates};
+ghost use Rattle.arbiter.specs.Next.{Looks};
 ghost use Rattle.rules.specs.Marks.{marks};
 use answers::first_of;
 use answers::quiet;
@@ -10,6 +11,8 @@ use cards::Table;
 use marks::is_closed;
 use marks::is_holder;
 use marks::waits_at;
+use rules::is_robin;
+use rules::look_round;
 use rules::one_waits;
 use sets::inhibit;
 
@@ -63,6 +66,12 @@ pub struct Outcome {
     pub winner: u8,
     pub lines: u16,
     pub stages: u8,
+}
+
+// Who is next: the answer and the card, which is 0 where the answer refuses.
+pub struct NextWinner {
+    pub answer: u8,
+    pub winner: u8,
 }
 
 // The state of these parts.
@@ -183,4 +192,23 @@ pub fn arbitrate_in(
         return quiet(hold, refusal);
     }
     arbitrated_in(hold, k, rule, waiting, counts, batch, inhibited)
+}
+
+// Who would win an arbitration under round-robin, by a look at who waits and without settling: 17, 32, 13 and 14, or 0 with the card. Like the events it
+// is told whether the state is well formed, so that a panel which keeps its state checked pays for the look alone.
+pub fn next_in(formed: bool, k: u8, rule: u8, waiting: &[bool; 64], hold: Hold) -> NextWinner
+    ensures { λ r. ⌜ Looks formed k rule (now (waiting .entry)) hold r ⌝ }
+{
+    let bus = hold.bus;
+    let as_arbitration = first_of(is_closed(bus), 13, first_of(hold.waiters == 0, 14, 0));
+    let refusal = first_of(!formed, 17, first_of(!is_robin(rule), 32, as_arbitration));
+    if refusal != 0 {
+        return NextWinner {
+            answer: refusal,
+            winner: 0,
+        };
+    }
+    let cards = *waiting;
+    let winner = look_round(k, hold.last, cards);
+    NextWinner { answer: 0, winner }
 }

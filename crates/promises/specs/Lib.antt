@@ -3,6 +3,7 @@
 pub mod Runs
 pub mod Fairness
 pub mod States
+pub mod Next
 pub mod Counts
 pub mod RoundTrip
 pub mod Settling

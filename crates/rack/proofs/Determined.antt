@@ -33,3 +33,6 @@ load-determined κ a x y b c p q = (one-result p q, refl)
 
 pub save-determined : Determined rack.save.ended rack.save.Reads.Learnt
 save-determined κ a x y b c p q = (one-result (p .0) (q .0), λ i. (tt, (one-result (p .1) (q .1) i, tt)))
+
+pub next-winner-determined : Determined rack.«next_winner».ended rack.«next_winner».Reads.Learnt
+next-winner-determined κ a x y b c p q = (one-result p q, refl)

@@ -4,15 +4,18 @@ ghost use mathlib.Core.Path.{_≡_};
 ghost use lib.ListN.{length};
 ghost use Rattle.arbiter.specs.Arbitrate.{arbitrateOf, eventOf};
 ghost use Rattle.arbiter.specs.Events.{answered, requestOf, releaseOf};
+ghost use Rattle.arbiter.specs.Next.{nextOf};
 ghost use Rattle.arbiter.specs.State.{wellFormed, freshOf};
 ghost use Rattle.rack.specs.HowMany.{howManyOf};
 ghost use Rattle.rack.specs.Files.{loadOf, saveOf, saveAfter};
 use answers::hold_of;
 use answers::outcome_of;
 use arbiter::Bus;
+use arbiter::NextWinner;
 use arbiter::Outcome;
 use arbiter::RackState;
 use arbiter::arbitrate_in;
+use arbiter::next_in;
 use arbiter::release_in;
 use arbiter::request_in;
 use cards::Saved;
@@ -63,6 +66,16 @@ pub fn waiting_count(s: RackState) -> HowMany
         answer: 17,
         count: 0,
     }
+}
+
+// Who would win an arbitration of the state under round-robin, without settling: 17, 32, 13 and 14, or 0 with the card.
+pub fn next_winner(s: RackState) -> NextWinner
+    ensures { λ r. ⌜ r ≡ nextOf s ⌝ }
+{
+    let table = s.table;
+    let waiting = s.waiting;
+    let hold = hold_of(s);
+    next_in(well_formed(s), table.k, table.rule, &waiting, hold)
 }
 
 // A freshly loaded state: nobody waits, counts 0, the two sets empty, last winner 0, bus free, lines at 0, no card counted as waiting.

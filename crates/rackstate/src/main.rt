@@ -14,7 +14,8 @@
 //   325  the kept value of the lines, low byte first, 2 bytes
 //   327  the stored number of waiting cards
 // Then what to do with it:
-//   328  the letter: Q, A or R for an event, S for a save, N for how many cards wait; any other letter is an event too, and is refused with 18
+//   328  the letter: Q, A or R for an event, S for a save, N for how many cards wait, W for who is next; any other letter is an event too, and is refused
+//        with 18
 //   329  the number of the event, or how many bytes are lent to the save; each of them holds EE before (in hex)
 //
 // A record out has 333 bytes, and after a save those that were lent. Its first 328 are the state that the event returns, or the state that was
@@ -28,9 +29,13 @@
 //   329  length, low byte first, 2 bytes
 //   331  zeros, 2 bytes
 //   333  the bytes that were lent, as the save left them
-// and for how many cards wait:
+// for how many cards wait:
 //   328  answer
 //   329  how many
+//   330  zeros, 3 bytes
+// and for who is next:
+//   328  answer
+//   329  the card that would win
 //   330  zeros, 3 bytes
 //
 // Each record is answered before the next is read. The program ends where the input ends or a record is short.
@@ -78,6 +83,15 @@ fn answer_count(state: RackState) -> bool {
     io::write_all(STDOUT_FILENO, &out)
 }
 
+// Writes who is next in the state; whether it could be written.
+fn answer_next(state: RackState) -> bool {
+    let next = rack::next_winner(state);
+    let mut out = bytes_of(state);
+    out[AFTER] = next.answer;
+    out[AFTER + 1] = next.winner;
+    io::write_all(STDOUT_FILENO, &out)
+}
+
 // Lends so many bytes to a save, each of which holds EE.
 fn lend_to_save(state: RackState, number: u8) -> bool {
     let mut buffer = [0xEEu8; 255];
@@ -93,6 +107,7 @@ fn answer(bytes: &[u8; RECORD]) -> bool {
     match letter {
         b'S' => lend_to_save(state, number),
         b'N' => answer_count(state),
+        b'W' => answer_next(state),
         _ => answer_event(state, letter, number),
     }
 }

@@ -10,6 +10,9 @@ span-determined κ a x y b c p q = (one-result (p .0) (q .0), refl)
 pub lines-of-determined : Determined rules.lines_of.ended rules.lines_of.Reads.Learnt
 lines-of-determined κ a x y b c p q = (one-result p q, refl)
 
+pub is-robin-determined : Determined rules.is_robin.ended rules.is_robin.Reads.Learnt
+is-robin-determined κ a x y b c p q = (one-result p q, refl)
+
 pub counts-losers-determined : Determined rules.counts_losers.ended rules.counts_losers.Reads.Learnt
 counts-losers-determined κ a x y b c p q = (one-result p q, refl)
 
@@ -36,3 +39,6 @@ renew-batch-determined κ a x y b c p q = (refl, λ i. (tt, (tt, (tt, (one-resul
 
 pub clear-inhibitions-determined : Determined rules.sets.«clear_inhibitions».ended rules.sets.«clear_inhibitions».Reads.Learnt
 clear-inhibitions-determined κ a x y b c p q = (refl, λ i. (tt, (tt, (one-result p q i, tt))))
+
+pub look-round-determined : Determined rules.look_round.ended rules.look_round.Reads.Learnt
+look-round-determined κ a x y b c p q = (one-result p q, refl)

@@ -1,10 +1,17 @@
-// The rules by their numbers, and what they make of the marks of the cards without a settling: how the sets and the counts change.
+// The rules by their numbers, and what they make of the marks of the cards without a settling: how the sets and the counts change, and who is next.
 // It takes what it reads, and no state.
 ghost use Prim.Native.Nat.{_≤_};
 ghost use mathlib.Core.Path.{_≡_};
-ghost use Rattle.rules.specs.Rules.{linesGiven, spanOf, countsLosers, hasBatch, inhibits};
+ghost use Rattle.rules.specs.Look.{lookRound};
+ghost use Rattle.rules.specs.Marks.{isIn};
+ghost use Rattle.rules.specs.Rules.{isRobin, linesGiven, spanOf, countsLosers, hasBatch, inhibits};
+use look::below_last;
+use look::below_span;
+use look::look_down;
+use look::lowest;
 
 mod counts;
+mod look;
 mod sets;
 
 pub use counts::grow_counts;
@@ -35,6 +42,20 @@ pub fn lines_of(k: u8, rule: u8) -> u8
         3 => k,
         4 => k,
         _ => 0,
+    }
+}
+
+// Whether it is round-robin.
+pub fn is_robin(rule: u8) -> bool
+    ensures { λ r. ⌜ r ≡ isRobin rule ⌝ }
+{
+    match rule {
+        0 => false,
+        1 => true,
+        2 => false,
+        3 => false,
+        4 => false,
+        _ => false,
     }
 }
 
@@ -78,4 +99,16 @@ pub fn inhibits(rule: u8) -> bool
         4 => true,
         _ => false,
     }
+}
+
+// Who is next under round-robin, without settling: the first waiting card from the last winner less one to 1, and then, if nobody waits there, from
+// 2 ^ k - 1 down to the last winner itself; 0 if nobody waits at all. It takes any width and any last winner.
+pub fn look_round(k: u8, last: u8, waiting: [bool; 64]) -> u8
+    ensures { λ r. ⌜ r ≡ lookRound (isIn waiting) k last ⌝ }
+{
+    let below = look_down(&waiting, 1, below_last(last));
+    if below != 0 {
+        return below;
+    }
+    look_down(&waiting, lowest(last), below_span(k))
 }
