@@ -1,5 +1,5 @@
 /* The C peer of racktrace for the benchmark: the same input and output, written for speed and with nothing proved.
- * It trusts its table (number width, rule and numbers of a saved file) and checks each trace line and event as document 01 says. */
+ * It trusts its table (number width, rule and numbers of a saved file) and checks each trace line and event as documents 01 and 02 say. */
 #include <stdint.h>
 #include <stdio.h>
 #include <string.h>
@@ -8,7 +8,8 @@
 enum { CARDS = 64, CHUNK = 1 << 16, LINE = 5, ROW = 19 };
 
 static uint8_t slots[CARDS], waiting[CARDS], counts[CARDS];
-static unsigned k, rule, last, held, holder, waiters;
+static unsigned k, rule, last, waiters;
+static unsigned holder, elected; /* 0 where the bus is free, and where no card is elected to follow */
 static uint16_t kept; /* what the lines settled to last; the next settling starts from it */
 
 struct outcome {
@@ -66,7 +67,7 @@ static int some_loser_full(unsigned winner)
 
 static struct outcome arbitrate(void)
 {
-    if (held) return (struct outcome){13, 0, 0, 0};
+    if (elected) return (struct outcome){13, 0, 0, 0};
     if (!waiters) return (struct outcome){14, 0, 0, 0};
     uint16_t numbers[CARDS], lines = kept, next;
     show_numbers(numbers);
@@ -84,15 +85,16 @@ static struct outcome arbitrate(void)
     kept = lines;
     waiting[winner] = 0;
     waiters--;
-    held = 1;
-    holder = last = winner;
+    last = winner;
+    if (holder) elected = winner;
+    else holder = winner;
     return (struct outcome){0, winner, lines, t};
 }
 
 static struct outcome request(unsigned a)
 {
     if (a >= CARDS || !slots[a]) return (struct outcome){11, 0, 0, 0};
-    if (waiting[a]) return (struct outcome){12, 0, 0, 0};
+    if (waiting[a] || a == elected) return (struct outcome){12, 0, 0, 0};
     waiting[a] = 1;
     counts[a] = 0;
     waiters++;
@@ -102,8 +104,9 @@ static struct outcome request(unsigned a)
 static struct outcome release(unsigned a)
 {
     if (a >= CARDS || !slots[a]) return (struct outcome){11, 0, 0, 0};
-    if (!held || holder != a) return (struct outcome){15, 0, 0, 0};
-    held = 0;
+    if (holder != a) return (struct outcome){15, 0, 0, 0};
+    holder = elected;
+    elected = 0;
     return (struct outcome){0, 0, 0, 0};
 }
 

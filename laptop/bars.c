@@ -4,7 +4,8 @@
 #include "shapes.h"
 #include "waits.h"
 
-/* Each row has two lanes, for a card that holds the bus may wait again. Parts of its height. */
+/* Each row has two lanes, for a card that holds the bus may wait again, or be elected again. None
+ * waits while it is elected. Parts of the row's height. */
 struct lane {
     const char *class;
     double top;
@@ -12,6 +13,7 @@ struct lane {
 };
 static const struct lane holds = {"holds", 0.12, 0.44};
 static const struct lane waits = {"waits", 0.62, 0.24};
+static const struct lane elected = {"elected", 0.62, 0.24};
 
 enum { MOST_RADIUS = 9, LEAST_COUNTED_RADIUS = 7 };
 
@@ -67,13 +69,27 @@ static void draw_waits(FILE *file, const struct inquiry *inquiry, const struct l
     }
 }
 
-static void draw_holds(FILE *file, const struct inquiry *inquiry, const struct layout *layout)
+/* What the card that wins at this line has won: the bus, or first the place behind its holder. */
+static void draw_turn(FILE *file, const struct inquiry *inquiry, const struct layout *layout,
+                      size_t line)
+{
+    const struct listing *listing = &inquiry->listing;
+    size_t row = layout->row_of[event_at(listing, line)->winner];
+    size_t from = held_from(listing, line);
+    if (is_election(listing, line)) {
+        draw_bar(file, layout, &elected, row, (double)line, drawn_end(layout, from));
+    }
+    if (from != 0) {
+        draw_bar(file, layout, &holds, row, (double)from,
+                 drawn_end(layout, release_after(listing, from)));
+    }
+}
+
+static void draw_turns(FILE *file, const struct inquiry *inquiry, const struct layout *layout)
 {
     for (size_t line = 1; line <= layout->last; line++) {
-        unsigned winner = event_at(&inquiry->listing, line)->winner;
-        if (winner != 0) {
-            draw_bar(file, layout, &holds, layout->row_of[winner], (double)line,
-                     drawn_end(layout, release_after(&inquiry->listing, line)));
+        if (event_at(&inquiry->listing, line)->winner != 0) {
+            draw_turn(file, inquiry, layout, line);
         }
     }
 }
@@ -151,6 +167,6 @@ static void draw_grants(FILE *file, const struct inquiry *inquiry, const struct 
 void draw_bars(FILE *file, const struct inquiry *inquiry, const struct layout *layout)
 {
     draw_waits(file, inquiry, layout);
-    draw_holds(file, inquiry, layout);
+    draw_turns(file, inquiry, layout);
     draw_grants(file, inquiry, layout);
 }

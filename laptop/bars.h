@@ -9,17 +9,18 @@
 /* A shade over all rows while the asked card waits; drawn first, as it lies under all else. */
 void draw_shades(FILE *file, const struct inquiry *inquiry, const struct layout *layout);
 
-/* A bar for each wait and each hold, then a mark for each grant. The marks of grants to others
- * while the asked card waits carry their count. */
+/* A bar for each wait, each hold, and between them for the time that a card is elected; then a mark
+ * for each grant and each election. The marks of other cards while the asked card waits carry their
+ * count. */
 void draw_bars(FILE *file, const struct inquiry *inquiry, const struct layout *layout);
 
 /* Whether a mark has room for a count. */
 bool marks_are_counted(const struct layout *layout);
 
-/* The mark of a grant to another card, with its count unless that is 0. */
+/* The mark where another card wins, with its count unless that is 0. */
 void draw_mark(FILE *file, double x, double y, double radius, size_t count);
 
-/* The mark of a grant to the asked card. */
+/* The mark where the asked card wins. */
 void draw_own_mark(FILE *file, double x, double y, double radius);
 
 #endif

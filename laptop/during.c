@@ -43,18 +43,66 @@ static void lengthen_streak(struct streak *streak, size_t line, unsigned answer)
     streak->count++;
 }
 
-/* Prints who has the bus at this line and how long. */
-static void print_hold(const struct inquiry *inquiry, const char *what, size_t line,
-                       unsigned number)
+/* Prints when the bus that is held at this line is released. */
+static void print_release(const struct listing *listing, size_t line)
 {
-    size_t release = release_after(&inquiry->listing, line);
-    printf("  line %zu: %s ", line, what);
-    print_card(stdout, &inquiry->table, number);
+    size_t release = release_after(listing, line);
     if (release != 0) {
-        printf(", released at line %zu\n", release);
+        printf(", released at line %zu", release);
     } else {
-        printf(", not released by the end\n");
+        printf(", not released by the end");
     }
+}
+
+void print_handing(const struct listing *listing, size_t line)
+{
+    size_t from = held_from(listing, line);
+    if (from != 0) {
+        printf("handed the bus at line %zu", from);
+    } else {
+        printf("not handed the bus by the end");
+    }
+}
+
+/* Prints who has the bus after this line, and who follows. */
+static void print_bus(const struct inquiry *inquiry, size_t line)
+{
+    const struct listing *listing = &inquiry->listing;
+    struct bus bus = bus_after(listing, line);
+    if (bus.holder == 0) {
+        return;
+    }
+    printf("  line %zu: bus held by ", line);
+    print_card(stdout, &inquiry->table, bus.holder);
+    print_release(listing, line);
+    if (bus.elected != 0) {
+        printf(", with ");
+        print_card(stdout, &inquiry->table, bus.elected);
+        printf(" elected to follow");
+        size_t handed = release_after(listing, line);
+        if (handed != 0) {
+            print_release(listing, handed);
+        }
+    }
+    putchar('\n');
+}
+
+/* Prints who wins at this line, and how long that card has the bus. */
+static void print_winner(const struct inquiry *inquiry, size_t line)
+{
+    const struct listing *listing = &inquiry->listing;
+    bool elected = is_election(listing, line);
+    size_t from = held_from(listing, line);
+    printf("  line %zu: %s ", line, elected ? "elected" : "granted to");
+    print_card(stdout, &inquiry->table, event_at(listing, line)->winner);
+    if (elected) {
+        printf(", ");
+        print_handing(listing, line);
+    }
+    if (from != 0) {
+        print_release(listing, from);
+    }
+    putchar('\n');
 }
 
 static void print_event(const struct inquiry *inquiry, struct streak *streak, size_t line)
@@ -64,7 +112,7 @@ static void print_event(const struct inquiry *inquiry, struct streak *streak, si
         lengthen_streak(streak, line, event->answer);
     } else if (is_grant_to_other(event, inquiry->number)) {
         end_streak(streak);
-        print_hold(inquiry, "granted to", line, event->winner);
+        print_winner(inquiry, line);
     } else if (event->number == inquiry->number && event->answer != 0) {
         end_streak(streak);
         printf("  line %zu: its %s refused", line, event->letter == 'Q' ? "request" : "release");
@@ -74,10 +122,7 @@ static void print_event(const struct inquiry *inquiry, struct streak *streak, si
 
 void print_during(const struct inquiry *inquiry, const struct wait *wait)
 {
-    unsigned holder = holder_after(&inquiry->listing, wait->asked);
-    if (holder != 0) {
-        print_hold(inquiry, "bus held by", wait->asked, holder);
-    }
+    print_bus(inquiry, wait->asked);
     struct streak streak = {.count = 0};
     for (size_t line = wait->asked + 1; line <= wait->until; line++) {
         print_event(inquiry, &streak, line);

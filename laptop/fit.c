@@ -2,13 +2,10 @@
 
 #include "say.h"
 
-struct cards {
-    bool waits[NUMBERS];
-    unsigned holder;
-};
+#define DOUBT "is it this rack's table and listing, whole?"
 
 /* Why this event cannot have been done, or null. */
-static const char *misfit(const struct cards *cards, const struct table *table,
+static const char *misfit(const bool waits[NUMBERS], struct bus bus, const struct table *table,
                           const struct event *event)
 {
     unsigned number = event->letter == 'A' ? event->winner : event->number;
@@ -17,44 +14,53 @@ static const char *misfit(const struct cards *cards, const struct table *table,
     }
     switch (event->letter) {
     case 'Q':
-        return cards->waits[number] ? "asks though it waits already" : NULL;
+        return waits[number]           ? "asks though it waits already"
+               : bus.elected == number ? "asks though it is elected already"
+                                       : NULL;
     case 'A':
-        return !cards->waits[number] ? "is granted though it does not wait"
-               : cards->holder != 0  ? "is granted though the bus is held"
-                                     : NULL;
+        return !waits[number]     ? "wins though it does not wait"
+               : bus.elected != 0 ? "wins though a card is elected already"
+                                  : NULL;
     default:
-        return cards->holder != number ? "releases a bus that it does not hold" : NULL;
+        return bus.holder != number ? "releases a bus that it does not hold" : NULL;
     }
 }
 
-static void follow(struct cards *cards, const struct event *event)
+static void follow(bool waits[NUMBERS], const struct event *event)
 {
     switch (event->letter) {
     case 'Q':
-        cards->waits[event->number] = true;
+        waits[event->number] = true;
         break;
     case 'A':
-        cards->waits[event->winner] = false;
-        cards->holder = event->winner;
-        break;
-    default:
-        cards->holder = 0;
+        waits[event->winner] = false;
+    }
+}
+
+/* Racks without elections answer 13 to every arbitration on a held bus. What is said of 13 does not
+ * hold for their listings. */
+static void check_closed(size_t line, struct bus bus, const struct event *event)
+{
+    if (event->answer == 13 && bus.elected == 0) {
+        bad_input("listing line %zu: refused with 13 though no card is elected: " DOUBT, line);
     }
 }
 
 void check_fit(const struct listing *listing, const struct table *table)
 {
-    struct cards cards = {.holder = 0};
+    bool waits[NUMBERS] = {false};
     for (size_t line = 1; line <= listing->lines; line++) {
         const struct event *event = event_at(listing, line);
+        struct bus bus = bus_after(listing, line - 1);
+        check_closed(line, bus, event);
         if (event->answer != 0) {
             continue;
         }
-        const char *why = misfit(&cards, table, event);
+        const char *why = misfit(waits, bus, table, event);
         if (why != NULL) {
-            bad_input("listing line %zu: number %u %s: is it this rack's table and listing, whole?",
-                      line, event->letter == 'A' ? event->winner : event->number, why);
+            bad_input("listing line %zu: number %u %s: " DOUBT, line,
+                      event->letter == 'A' ? event->winner : event->number, why);
         }
-        follow(&cards, event);
+        follow(waits, event);
     }
 }

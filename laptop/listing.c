@@ -46,9 +46,9 @@ static bool read_event(const char *line, struct event *event)
     event->answer = (uint8_t)number_at(line, ANSWER_AT);
     event->winner = (uint8_t)number_at(line, WINNER_AT);
     bool known = event->answer == 0 || (event->answer >= 11 && event->answer <= 17);
-    bool grants = event->letter == 'A' && event->answer == 0;
+    bool wins = event->letter == 'A' && event->answer == 0;
     return known && (event->letter != 'A' || event->number == 0) &&
-           (grants ? event->winner != 0 : reports_nothing(line));
+           (wins ? event->winner != 0 : reports_nothing(line));
 }
 
 static void append(struct listing *listing, size_t *room, struct event event)
@@ -72,6 +72,7 @@ static bool take_line(struct listing *listing, size_t *room, const char *line)
         return false;
     }
     if (read_event(line, &event)) {
+        event.bus = next_bus(bus_after(listing, listing->lines), &event);
         append(listing, room, event);
         return true;
     }

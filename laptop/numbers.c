@@ -35,25 +35,29 @@ static const struct screen_number screen_numbers[] = {
     {11, "request or release by a number not in the table",
      "Look up the number with racklap table. A card that was set to a wrong number: correct the "
      "card. A new card: put it into the table."},
-    {12, "request by a card already waiting",
-     "The first request still stands and keeps its turn. If this number comes often, look at why "
-     "the card asks again, and ask racklap why about its slot."},
-    {13, "arbitrate while the bus is held",
-     "Look for the last grant above this line: that card holds the bus. If its release never "
-     "comes, look at that card first."},
+    {12, "request by a card already waiting, or elected",
+     "A card that waits keeps its turn: its first request still stands. An elected card gets the "
+     "bus at the next release and can ask again then. If this number comes often, look at why the "
+     "card asks again, and ask racklap why about its slot."},
+    {13, "arbitrate while a card is already elected",
+     "Look for the last two winners above this line: the last is elected to follow, the one before "
+     "it holds the bus. If the release of the holder never comes, look at that card first."},
     {14, "arbitrate with nobody waiting",
      "No card wants the bus, which is no fault. If a card should have asked, look above for its "
      "request and for the answer that it got."},
     {15, "release by a card that doesn't hold the bus",
-     "Look for the last grant above this line: only that card can release, and only once. The "
-     "card that released here sends its release twice, or under a wrong number."},
+     "Look for the last two winners above this line: the last holds the bus, or it is elected and "
+     "the one before it still holds. Only the holder can release, and only once. The card that "
+     "released here is elected and comes too early, or sends its release twice, or under a wrong "
+     "number."},
     {16, "arbitrate under rule 2 where a loser's count is already 2^k - 1",
      "Start the rack anew: all counts begin at 0. Keep the table and the listing up to this line "
      "and report them, for somebody must see how the count got there."},
     {17, "state not well formed (before 11 to 16)",
      "The memory of the rack does not fit its table and rule: the waiting cards and how many are "
-     "stored as waiting, counts, batch, inhibited cards, last winner, holder or kept line value. "
-     "Load the table again. If the number comes back, exchange the card that shows it."},
+     "stored as waiting, counts, batch, inhibited cards, last winner, holder, elected card or kept "
+     "line value. Load the table again. If the number comes back, exchange the card that shows "
+     "it."},
     {18, "trace line malformed",
      "Look at this line of the trace: Q, A or R, one space, two digits, a newline and nothing "
      "else; A has 00. Blank lines and line ends of Windows are malformed too."},

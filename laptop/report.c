@@ -1,5 +1,6 @@
 #include "report.h"
 
+#include "bus.h"
 #include "during.h"
 #include "promise.h"
 #include "waits.h"
@@ -12,6 +13,20 @@ static void print_heading(const struct inquiry *inquiry)
            table->rule->name);
 }
 
+/* Prints at which line the wait ended, and how. */
+static void print_outcome(const struct listing *listing, const struct wait *wait)
+{
+    if (wait->granted == 0) {
+        printf("not granted by the end, ");
+    } else if (!is_election(listing, wait->granted)) {
+        printf("granted at line %zu, ", wait->granted);
+    } else {
+        printf("elected at line %zu, ", wait->granted);
+        print_handing(listing, wait->granted);
+        printf(", ");
+    }
+}
+
 static size_t print_waits(const struct inquiry *inquiry)
 {
     size_t count = 0;
@@ -19,11 +34,7 @@ static size_t print_waits(const struct inquiry *inquiry)
     while (next_wait(&inquiry->listing, inquiry->number, &wait)) {
         count++;
         printf("wait %zu: asked at line %zu, ", count, wait.asked);
-        if (wait.granted != 0) {
-            printf("granted at line %zu, ", wait.granted);
-        } else {
-            printf("not granted by the end, ");
-        }
+        print_outcome(&inquiry->listing, &wait);
         print_grants(stdout, wait.others);
         putchar('\n');
         print_during(inquiry, &wait);
@@ -56,12 +67,22 @@ static void print_went_first(const struct inquiry *inquiry)
     }
 }
 
+static bool has_election(const struct listing *listing)
+{
+    size_t line = 1;
+    while (line <= listing->lines && !is_election(listing, line)) {
+        line++;
+    }
+    return line <= listing->lines;
+}
+
 static void print_longest(const struct inquiry *inquiry)
 {
     struct wait longest = longest_wait(&inquiry->listing, inquiry->number);
     fputs("Longest wait: ", stdout);
     print_grants(stdout, longest.others);
-    printf(", asked at line %zu.\n", longest.asked);
+    printf(", asked at line %zu.%s\n", longest.asked,
+           has_election(&inquiry->listing) ? " An election counts as a grant." : "");
 }
 
 /* What the rule promises, whether the listing kept it, and the answer if it did. */

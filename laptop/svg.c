@@ -28,7 +28,8 @@ static const char style[] =
     ".grid{stroke:#d1d5db;stroke-width:1}\n"
     ".refused{stroke:#dc2626;stroke-width:2.5}\n"
     ".waits{fill:#f59e0b}\n"
-    ".holds{fill:#2563eb}\n"
+    ".elected{fill:#93c5fd}\n"
+    ".holds{fill:#2563eb;stroke:#fff}\n"
     ".grant{fill:#111827}\n"
     ".own{fill:#15803d}\n"
     ".tick{stroke:#fff;stroke-width:2;stroke-linecap:round}\n"
@@ -145,21 +146,23 @@ static void draw_legend(FILE *file, const struct inquiry *inquiry, const struct 
     bool counted = marks_are_counted(layout);
     draw_box(file, "waits", MARGIN, y + 6, 20, 10);
     draw_words(file, "note", MARGIN + 30, y + 16, "waits");
-    draw_box(file, "holds", MARGIN + 95, y + 2, 20, 18);
-    draw_words(file, "note", MARGIN + 125, y + 16, "holds the bus");
-    draw_line(file, "refused", MARGIN + 255, y + 6, MARGIN + 255, y + 18);
-    draw_words(file, "note", MARGIN + 265, y + 16, "refused event");
+    draw_box(file, "elected", MARGIN + 95, y + 6, 20, 10);
+    draw_words(file, "note", MARGIN + 125, y + 16, "elected to follow");
+    draw_box(file, "holds", MARGIN + 255, y + 2, 20, 18);
+    draw_words(file, "note", MARGIN + 285, y + 16, "holds the bus");
     draw_mark(file, MARGIN + 10, y + 39, 9, counted ? 1 : 0);
     open_text(file, "note", MARGIN + 30, y + 44);
-    fputs("grant to another card", file);
+    fputs("another card wins", file);
     if (counted) {
         fprintf(file, ", counted while slot %u waits", inquiry->slot);
     }
     close_text(file);
     draw_own_mark(file, MARGIN + 10, y + 65, 9);
     open_text(file, "note", MARGIN + 30, y + 70);
-    fprintf(file, "grant to slot %u", inquiry->slot);
+    fprintf(file, "slot %u wins", inquiry->slot);
     close_text(file);
+    draw_line(file, "refused", MARGIN + 265, y + 60, MARGIN + 265, y + 72);
+    draw_words(file, "note", MARGIN + 285, y + 70, "refused event");
 }
 
 void write_svg(const struct inquiry *inquiry, bool broken, const char *name)

@@ -1,4 +1,5 @@
-/* The listing as a picture: a row a slot, bars for waiting and holding, the asked slot marked. */
+/* The listing as a picture: a row a slot, bars for waiting, being elected and holding, the asked
+ * slot marked. */
 #ifndef SVG_H
 #define SVG_H
 

@@ -1,4 +1,5 @@
-/* The waits of one card: from a request that was done to its grant. */
+/* The waits of one card: from a request that was done to its grant. Here and below an election is
+ * a grant too, made early: the wait is over when the card is elected. */
 #ifndef WAITS_H
 #define WAITS_H
 

@@ -1,6 +1,7 @@
 //! The figures of the waiting report, worked out from the whole history that a listing tells.
 //!
-//! Nothing is tallied along the way: each figure is looked for in the finished history.
+//! Nothing is tallied along the way: each figure is looked for in the finished history. An election
+//! is a grant, since the request ends with it.
 
 use crate::waiting::{waits, Entry, Wait};
 
@@ -104,25 +105,29 @@ pub fn square(history: &[Entry], cards: &[u8]) -> Vec<Vec<u64>> {
 #[cfg(test)]
 mod tests {
     use super::{counted, done_events, figures, square, squared_differences, Figures, MOST_EVENTS};
+    use crate::judge::named_tables::WORKED_TABLE;
+    use crate::judge::named_traces::WORKED_LISTING;
     use crate::rng::Rng;
+    use crate::table;
     use crate::waiting::Entry::{self, Asked, Granted, Refused, Released};
-    use crate::waiting::{waits, Wait};
+    use crate::waiting::{history, waits, Wait};
 
-    /// Card 2 asks and waits through the grants to 5 and 6, card 6 asks again meanwhile.
+    /// Card 2 asks and waits through the grants to 6 and 5, card 6 asks again meanwhile. All but the
+    /// first grant are elections.
     const WORKED: [Entry; 15] = [
         Asked(2),
         Asked(5),
         Asked(6),
         Granted(6),
         Asked(6),
-        Refused,
+        Granted(5),
         Refused,
         Released(6),
-        Granted(5),
-        Released(5),
         Granted(2),
-        Released(2),
+        Released(5),
         Granted(6),
+        Released(2),
+        Refused,
         Released(6),
         Refused,
     ];
@@ -140,6 +145,14 @@ mod tests {
         }
     }
 
+    /// The history above is that of the worked listing.
+    #[test]
+    fn the_worked_listing_tells_the_worked_history() {
+        let table = table::load(&WORKED_TABLE).expect("the worked table is accepted");
+        let told = history(WORKED_LISTING.as_bytes(), &table);
+        assert_eq!(told.as_deref(), Ok(&WORKED[..]));
+    }
+
     #[test]
     fn the_worked_history() {
         assert_eq!(done_events(&WORKED), 12);
@@ -153,14 +166,14 @@ mod tests {
     #[test]
     fn a_card_without_a_grant() {
         assert_eq!(figures_of(3, &WORKED), plain(0, 0, 0, (0, 0)));
-        assert_eq!(figures_of(2, &WORKED[..10]), plain(0, 0, 0, (0, 0)));
+        assert_eq!(figures_of(2, &WORKED[..8]), plain(0, 0, 0, (0, 0)));
     }
 
     /// A wait that is not over is in the square alone; at its own grant a card no longer waits.
     #[test]
     fn a_wait_that_is_not_over() {
         let rows = [[0, 1, 1], [0, 0, 1], [0, 1, 0]];
-        assert_eq!(square(&WORKED[..10], &[2, 5, 6]), rows);
+        assert_eq!(square(&WORKED[..8], &[2, 5, 6]), rows);
         assert_eq!(square(&WORKED[..3], &[2, 5, 6]), [[0; 3]; 3]);
     }
 

@@ -1,6 +1,6 @@
 //! Who is next under round-robin: found by looking along the numbers, not by settling.
 
-use crate::rack::{Bus, Rack};
+use crate::rack::Rack;
 use crate::table::greatest_number;
 
 const ROUND_ROBIN: u8 = 1;
@@ -13,7 +13,8 @@ fn look(last_winner: u8, k: u8) -> Vec<u8> {
     below.chain(from_the_top).collect()
 }
 
-/// The first card of the look that waits, or the refusal.
+/// The first card of the look that waits, or the refusal. While the bus is held it is the card that
+/// an arbitration would elect.
 pub fn next_winner(rack: &Rack) -> Result<u8, u32> {
     if !rack.is_well_formed() {
         return Err(17);
@@ -21,7 +22,7 @@ pub fn next_winner(rack: &Rack) -> Result<u8, u32> {
     if rack.table.rule != ROUND_ROBIN {
         return Err(32);
     }
-    if rack.bus != Bus::Free {
+    if rack.bus.elected().is_some() {
         return Err(13);
     }
     let mut look = look(rack.last_winner, rack.table.k).into_iter();
@@ -76,7 +77,7 @@ mod tests {
             }
             session.answer(line);
         }
-        assert_eq!(looks, [Ok(6), Err(13), Ok(5), Ok(2), Ok(6), Err(14)]);
+        assert_eq!(looks, [Ok(6), Ok(5), Ok(2), Ok(6), Err(14), Err(14)]);
     }
 
     #[test]

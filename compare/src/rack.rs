@@ -8,6 +8,43 @@ use crate::table::{self, Table};
 pub enum Bus {
     Free,
     Held(u8),
+    /// Held, and a card is elected to follow. It may be the holder itself.
+    Followed {
+        holder: u8,
+        elected: u8,
+    },
+}
+
+impl Bus {
+    pub fn holder(self) -> Option<u8> {
+        match self {
+            Bus::Free => None,
+            Bus::Held(holder) | Bus::Followed { holder, .. } => Some(holder),
+        }
+    }
+
+    pub fn elected(self) -> Option<u8> {
+        match self {
+            Bus::Followed { elected, .. } => Some(elected),
+            _ => None,
+        }
+    }
+
+    /// The winner has a free bus at once, or follows the holder.
+    fn won_by(self, winner: u8) -> Bus {
+        match self.holder() {
+            None => Bus::Held(winner),
+            Some(holder) => Bus::Followed {
+                holder,
+                elected: winner,
+            },
+        }
+    }
+
+    /// The holder hands the bus on to the elected card, if there is one.
+    fn released(self) -> Bus {
+        self.elected().map_or(Bus::Free, Bus::Held)
+    }
 }
 
 #[derive(Clone, Copy, Debug, PartialEq, Eq, Hash)]
@@ -17,7 +54,7 @@ pub struct Rack {
     pub counts: [u8; 64],
     /// Under rule 3 the cards that are granted before any other.
     pub batch: [bool; 64],
-    /// Under rule 4 the cards that have released since the inhibitions were last cleared.
+    /// Under rule 4 the cards that were granted or elected since the inhibitions were last cleared.
     pub inhibited: [bool; 64],
     /// 0 if none yet.
     pub last_winner: u8,
@@ -70,7 +107,7 @@ impl Rack {
         self.table.is_sound()
             && (0..64).all(|card| !self.waits(card) || self.table.has(card))
             && (self.last_winner == 0 || self.table.has(self.last_winner))
-            && self.holder_is_well_formed()
+            && self.bus_is_well_formed()
             && u32::from(self.kept) < 1 << self.lines()
             && self.waiters == self.recount()
             && (0..64).all(|card| self.count_is_well_formed(card))
@@ -82,10 +119,13 @@ impl Rack {
         (rule(self.table.rule).lines)(self.table.k)
     }
 
-    fn holder_is_well_formed(&self) -> bool {
+    /// The elected card, or else the holder, is the last winner.
+    fn bus_is_well_formed(&self) -> bool {
+        let won_last = |card| self.table.has(card) && card == self.last_winner;
         match self.bus {
             Bus::Free => true,
-            Bus::Held(card) => self.table.has(card) && card == self.last_winner,
+            Bus::Held(holder) => won_last(holder),
+            Bus::Followed { holder, elected } => self.table.has(holder) && won_last(elected),
         }
     }
 
@@ -165,7 +205,7 @@ impl Rack {
         if !self.table.has(card) {
             return Err(11);
         }
-        if self.waits(card) {
+        if self.waits(card) || self.bus.elected() == Some(card) {
             return Err(12);
         }
         let mut next = *self;
@@ -179,17 +219,16 @@ impl Rack {
         if !self.table.has(card) {
             return Err(11);
         }
-        if self.bus != Bus::Held(card) {
+        if self.bus.holder() != Some(card) {
             return Err(15);
         }
         let mut next = *self;
-        next.bus = Bus::Free;
-        next.inhibited[usize::from(card)] = rule(self.table.rule).inhibits;
+        next.bus = self.bus.released();
         Ok((next, Outcome::default()))
     }
 
     fn arbitrate(&self) -> Result<(Rack, Outcome), u32> {
-        if self.bus != Bus::Free {
+        if self.bus.elected().is_some() {
             return Err(13);
         }
         if self.waiters == 0 {
@@ -219,13 +258,15 @@ impl Rack {
         }
     }
 
+    /// The winner's request ends here, whether it is granted the bus or elected to follow.
     fn grant(&self, rule: &Rule, winner: u8) -> Result<Rack, u32> {
         let mut next = *self;
         next.waiting[usize::from(winner)] = false;
         next.waiters -= 1;
         next.counts[usize::from(winner)] = 0;
         next.batch[usize::from(winner)] = false;
-        next.bus = Bus::Held(winner);
+        next.inhibited[usize::from(winner)] = rule.inhibits;
+        next.bus = self.bus.won_by(winner);
         next.last_winner = winner;
         if rule.counts {
             let full = table::greatest_number(self.table.k);

@@ -16,7 +16,7 @@ pub struct Rule {
     pub renew: fn(rack: &mut Rack),
     /// Is there a batch?
     pub batches: bool,
-    /// Does a release inhibit the card?
+    /// Is the winner inhibited?
     pub inhibits: bool,
 }
 

@@ -4,9 +4,9 @@ use crate::next_winner::next_winner;
 use crate::rack::{Bus, Event, Outcome, Rack};
 use crate::table::{self, Table};
 
-/// k, the rule, five arrays by number, the last winner, two bytes for the bus, two for the kept value
-/// of the lines, and one for how many cards wait.
-pub const STATE: usize = 2 + 5 * 64 + 3 + 2 + 1;
+/// k, the rule, five arrays by number, the last winner, three bytes for the bus, two for the kept
+/// value of the lines, and one for how many cards wait.
+pub const STATE: usize = 2 + 5 * 64 + 4 + 2 + 1;
 /// A state, a letter and a number.
 pub const RECORD: usize = STATE + 2;
 /// A state and five bytes about what became of it; after a save the lent bytes follow.
@@ -49,12 +49,29 @@ pub fn rack(bytes: &[u8]) -> Rack {
         batch: set(batch),
         inhibited: set(inhibited),
         last_winner: bytes_after[0],
-        bus: match bytes_after[1] {
-            0 => Bus::Free,
-            _ => Bus::Held(bytes_after[2]),
+        bus: bus(&bytes_after[1..4]),
+        kept: u16::from_le_bytes([bytes_after[4], bytes_after[5]]),
+        waiters: bytes_after[6],
+    }
+}
+
+/// Which bus it is, its holder, and the elected card. What the bus doesn't have is passed over.
+fn bus(bytes: &[u8]) -> Bus {
+    match bytes[0] {
+        0 => Bus::Free,
+        1 => Bus::Held(bytes[1]),
+        _ => Bus::Followed {
+            holder: bytes[1],
+            elected: bytes[2],
         },
-        kept: u16::from_le_bytes([bytes_after[3], bytes_after[4]]),
-        waiters: bytes_after[5],
+    }
+}
+
+fn bus_bytes(bus: Bus) -> [u8; 3] {
+    match bus {
+        Bus::Free => [0, 0, 0],
+        Bus::Held(holder) => [1, holder, 0],
+        Bus::Followed { holder, elected } => [2, holder, elected],
     }
 }
 
@@ -66,10 +83,7 @@ fn state_bytes(rack: &Rack) -> Vec<u8> {
     bytes.extend(rack.batch.map(u8::from));
     bytes.extend(rack.inhibited.map(u8::from));
     bytes.push(rack.last_winner);
-    bytes.extend(match rack.bus {
-        Bus::Free => [0, 0],
-        Bus::Held(card) => [1, card],
-    });
+    bytes.extend(bus_bytes(rack.bus));
     bytes.extend(rack.kept.to_le_bytes());
     bytes.push(rack.waiters);
     bytes

@@ -1,7 +1,7 @@
 //! The waits of one card, searched for in the whole history that a listing tells.
 //!
 //! No state of the rack is kept or replayed here: an ask, its grant and the grants in between
-//! are found by their places in the history.
+//! are found by their places in the history. An election is a grant.
 
 use crate::listing::{self, LISTING_LINE};
 use crate::rack::Event;
@@ -11,6 +11,7 @@ use crate::table::Table;
 #[derive(Clone, Copy, Debug, PartialEq, Eq)]
 pub enum Entry {
     Asked(u8),
+    /// Granted the bus, or elected to follow.
     Granted(u8),
     Released(u8),
     Refused,
@@ -146,31 +147,13 @@ pub fn rows(slot: u8, table: &Table, listing: &[u8]) -> Result<String, String> {
 #[cfg(test)]
 mod tests {
     use super::rows;
+    use crate::judge::named_tables::WORKED_TABLE;
+    use crate::judge::named_traces::WORKED_LISTING as WORKED;
     use crate::table::{self, Table};
-
-    const WORKED: &str = "\
-Q 02 00 00 0000 00
-Q 05 00 00 0000 00
-Q 06 00 00 0000 00
-A 00 00 06 0006 02
-Q 06 00 00 0000 00
-A 00 13 00 0000 00
-R 05 15 00 0000 00
-R 06 00 00 0000 00
-A 00 00 05 0013 03
-R 05 00 00 0000 00
-A 00 00 02 0010 02
-R 02 00 00 0000 00
-A 00 00 06 0006 02
-R 06 00 00 0000 00
-A 00 14 00 0000 00
-";
 
     /// Numbers 2, 5 and 6 in slots 1, 2 and 3.
     fn worked_table() -> Table {
-        let file = b"\x01\0\x02\x03\x03\x01\x0c\0\x18\0\x02\0ANUM\0\x01SLOT\x01\x01\
-            \x02\x01\x05\x02\x06\x03";
-        table::load(file).expect("the worked table is accepted")
+        table::load(&WORKED_TABLE).expect("the worked table is accepted")
     }
 
     fn rows_of(slot: u8, listing: &str) -> Result<String, String> {
@@ -183,9 +166,9 @@ A 00 14 00 0000 00
 
     #[test]
     fn the_worked_listing() {
-        let slot_1 = "asked 1 granted 11 others 3:6 2:5\nlongest 2\n";
-        let slot_2 = "asked 2 granted 9 others 3:6\nlongest 1\n";
-        let slot_3 = "asked 3 granted 4 others\nasked 5 granted 13 others 2:5 1:2\nlongest 2\n";
+        let slot_1 = "asked 1 granted 9 others 3:6 2:5\nlongest 2\n";
+        let slot_2 = "asked 2 granted 6 others 3:6\nlongest 1\n";
+        let slot_3 = "asked 3 granted 4 others\nasked 5 granted 11 others 2:5 1:2\nlongest 2\n";
         assert_eq!(rows_of(1, WORKED).as_deref(), Ok(slot_1));
         assert_eq!(rows_of(2, WORKED).as_deref(), Ok(slot_2));
         assert_eq!(rows_of(3, WORKED).as_deref(), Ok(slot_3));
@@ -194,7 +177,7 @@ A 00 14 00 0000 00
     #[test]
     fn a_wait_that_is_not_over() {
         let rows = "asked 1 granted - others 3:6 2:5\nlongest 2\n";
-        assert_eq!(rows_of(1, &first_lines(10)).as_deref(), Ok(rows));
+        assert_eq!(rows_of(1, &first_lines(8)).as_deref(), Ok(rows));
     }
 
     #[test]

@@ -1,8 +1,10 @@
 /* A random rack and a random trace: rackgen SEED rack.tab trace [full]. Prints the slots of the
  * cards. A full rack has 63 of them, and a longer trace.
  *
- * The generator does not know who wins, so it releases by sweeping over all cards: all but the
- * holder's release are refused, which a listing shows too. */
+ * The generator does not know who wins, so it releases by sweeping over all cards: the holder's
+ * release is done, that of a card elected to follow if it comes later, and all others are refused,
+ * which a listing shows too. Every second arbitration has no sweep behind it, so that the next one
+ * finds the bus held and elects. */
 #include <stdbool.h>
 #include <stdint.h>
 #include <stdio.h>
@@ -78,7 +80,7 @@ static void write_event(const struct rack *rack, FILE *file)
         fprintf(file, "Q %02u\n", rack->number[below(rack->cards)]);
     } else if (kind < 9) {
         fprintf(file, "A 00\n");
-        if (kind < 8) {
+        if (kind < 7) {
             sweep(rack, file);
         }
     } else {

@@ -6,6 +6,8 @@ pub mod boundaries;
 pub mod conversation;
 pub mod damage;
 pub mod draft;
+pub mod elections;
+pub mod every_state;
 pub mod exhaustive;
 pub mod expect;
 pub mod grants_during_waits;
@@ -72,7 +74,9 @@ pub fn groups(sizes: &Sizes) -> Vec<Group> {
         Group::once("known traces", named_traces::kinds()),
         Group::once("known reports", named_reports::kinds()),
         Group::once("well-formed states", well_formed::kinds(&program)),
+        Group::once("elections", elections::kinds(&program)),
         Group::once("next winners", next_winners::kinds(&program)),
+        Group::once("every state", every_state::kinds(&program)),
         Group::once("exhaustive", exhaustive::kinds()),
         Group::once("small racks", small_racks::kinds()),
         Group::of("settlings", sizes.settlings, settlings::kinds()),

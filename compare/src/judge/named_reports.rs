@@ -41,6 +41,23 @@ const STARVED_SQUARE: &str = "\
 06 00000 00000 00000
 ";
 
+/// Rule 0: card 2 is elected and has its grant by that, long before it holds the bus. Its request
+/// before then is refused and is none.
+const ELECTED_TRACE: &str = "Q 02\nQ 06\nA 00\nA 00\nQ 02\nQ 06\nR 06\nA 00\nR 02\nR 06\n";
+
+const ELECTED_FIGURES: &str = "\
+end. 00 00009
+01 02 00001 00001/00001 0000000001 000000000000000/0000000001
+02 05 00000 00000/00000 0000000000 000000000000000/0000000000
+03 06 00002 00000/00002 0000000000 000000000000000/0000000004
+";
+
+const ELECTED_SQUARE: &str = "\
+02 00000 00000 00001
+05 00000 00000 00000
+06 00000 00000 00000
+";
+
 /// A report that is written out here, by the reference and by the product, without and with its
 /// square.
 fn written(
@@ -102,6 +119,21 @@ fn short() -> Vec<Kind> {
             "end. 18 00002",
         ),
         opening("up-to-a-blank-line", "Q 02\n\nA 00\n", "end. 18 00001"),
+        opening(
+            "of-an-election",
+            "Q 02\nQ 06\nA 00\nA 00\n",
+            "end. 00 00004",
+        ),
+        opening(
+            "of-what-is-refused-after-an-election",
+            "Q 02\nQ 06\nA 00\nA 00\nQ 02\nA 00\nR 02\nR 05\n",
+            "end. 00 00004",
+        ),
+        opening(
+            "of-a-bus-that-is-handed-on",
+            "Q 02\nQ 06\nA 00\nA 00\nR 06\nR 06\nR 02\n",
+            "end. 00 00006",
+        ),
         opening(
             "of-a-holder-that-asks-again",
             "Q 05\nA 00\nQ 05\nR 05\nA 00\n",
@@ -260,28 +292,54 @@ fn arguments() -> Vec<Kind> {
     kinds
 }
 
+/// The reports that are written out here: table, trace, figures and square.
+fn all_written() -> [(&'static str, Vec<u8>, [&'static str; 3]); 3] {
+    let fixed = file_with(3, 0, &[(2, 1), (5, 2), (6, 3)]);
+    [
+        (
+            "worked",
+            WORKED_TABLE.to_vec(),
+            [WORKED_TRACE, WORKED_FIGURES, WORKED_SQUARE],
+        ),
+        (
+            "starved",
+            fixed.clone(),
+            [STARVED_TRACE, STARVED_FIGURES, STARVED_SQUARE],
+        ),
+        (
+            "elected",
+            fixed,
+            [ELECTED_TRACE, ELECTED_FIGURES, ELECTED_SQUARE],
+        ),
+    ]
+}
+
 pub fn kinds() -> Vec<Kind> {
-    let worked = (WORKED_TABLE.to_vec(), WORKED_TRACE);
-    let starved = (file_with(3, 0, &[(2, 1), (5, 2), (6, 3)]), STARVED_TRACE);
     let mut kinds = Vec::new();
-    kinds.extend(written(
-        "worked",
-        worked.0,
-        worked.1,
-        WORKED_FIGURES,
-        WORKED_SQUARE,
-    ));
-    kinds.extend(written(
-        "starved",
-        starved.0,
-        starved.1,
-        STARVED_FIGURES,
-        STARVED_SQUARE,
-    ));
+    for (name, file, [trace, figures, square]) in all_written() {
+        kinds.extend(written(name, file, trace, figures, square));
+    }
     kinds.extend(short());
     kinds.extend(full_traces());
     kinds.push(Kind::named("report-of-a-great-variance", a_great_variance));
     kinds.extend(refused_tables());
     kinds.extend(arguments());
     kinds
+}
+
+#[cfg(test)]
+mod tests {
+    use super::all_written;
+    use crate::judge::reports::same;
+    use crate::waiting_report::texts;
+
+    #[test]
+    fn the_reference_reports_as_written() {
+        for (name, file, [trace, figures, square]) in all_written() {
+            let [plain, with_square] = texts(Some(&file), trace.as_bytes());
+            assert_eq!(same(&plain, figures.as_bytes()), Ok(()), "{name}");
+            let stated = format!("{figures}{square}");
+            assert_eq!(same(&with_square, stated.as_bytes()), Ok(()), "{name}");
+        }
+    }
 }

@@ -15,14 +15,14 @@ Q 05 00 00 0000 00
 Q 06 00 00 0000 00
 A 00 00 06 0006 02
 Q 06 00 00 0000 00
-A 00 13 00 0000 00
+A 00 00 05 0013 03
 R 05 15 00 0000 00
 R 06 00 00 0000 00
-A 00 00 05 0013 03
-R 05 00 00 0000 00
 A 00 00 02 0010 02
-R 02 00 00 0000 00
+R 05 00 00 0000 00
 A 00 00 06 0006 02
+R 02 00 00 0000 00
+A 00 14 00 0000 00
 R 06 00 00 0000 00
 A 00 14 00 0000 00
 ";
@@ -96,6 +96,100 @@ Q 07 00 00 0000 00
 A 00 00 05 0005 02
 ";
 
+/// Rule 0: the holder is elected itself, then another. Neither the elected card nor a third one can
+/// release, and the elected card can't ask before it holds the bus.
+const FIXED_ELECTIONS: &str = "\
+Q 05 00 00 0000 00
+A 00 00 05 0005 01
+Q 05 00 00 0000 00
+A 00 00 05 0005 00
+Q 05 12 00 0000 00
+A 00 13 00 0000 00
+R 05 00 00 0000 00
+Q 05 00 00 0000 00
+Q 07 00 00 0000 00
+A 00 00 07 0007 01
+R 07 15 00 0000 00
+Q 07 12 00 0000 00
+Q 02 00 00 0000 00
+R 05 00 00 0000 00
+Q 07 00 00 0000 00
+A 00 00 07 0007 00
+R 02 15 00 0000 00
+R 07 00 00 0000 00
+R 07 00 00 0000 00
+A 00 00 05 0005 02
+A 00 00 02 0002 02
+R 02 15 00 0000 00
+R 05 00 00 0000 00
+R 02 00 00 0000 00
+A 00 14 00 0000 00
+";
+
+/// Rule 2: whoever loses an election counts it.
+const ARRIVAL_ELECTIONS: &str = "\
+Q 02 00 00 0000 00
+Q 05 00 00 0000 00
+Q 07 00 00 0000 00
+A 00 00 07 0007 01
+Q 07 00 00 0000 00
+A 00 00 05 0013 03
+R 07 00 00 0000 00
+A 00 00 02 0018 03
+R 05 00 00 0000 00
+Q 05 00 00 0000 00
+A 00 00 07 0023 01
+R 02 00 00 0000 00
+A 00 00 05 0013 02
+R 07 00 00 0000 00
+R 05 00 00 0000 00
+A 00 14 00 0000 00
+";
+
+/// Rule 3: batch follows batch while the bus is handed on.
+const BATCH_ELECTIONS: &str = "\
+Q 02 00 00 0000 00
+Q 05 00 00 0000 00
+A 00 00 05 0005 03
+Q 05 00 00 0000 00
+Q 07 00 00 0000 00
+A 00 00 02 0002 02
+R 05 00 00 0000 00
+A 00 00 07 0007 01
+Q 02 00 00 0000 00
+R 02 00 00 0000 00
+A 00 00 05 0005 02
+R 07 00 00 0000 00
+A 00 00 02 0002 02
+R 05 00 00 0000 00
+R 02 00 00 0000 00
+A 00 14 00 0000 00
+";
+
+/// Rule 4: card 7 has the bus and asks again, and is passed over at once. It is elected when all who
+/// wait are inhibited, and then it alone is inhibited.
+const INHIBIT_ELECTIONS: &str = "\
+Q 07 00 00 0000 00
+A 00 00 07 0007 01
+Q 07 00 00 0000 00
+Q 02 00 00 0000 00
+A 00 00 02 0002 02
+R 07 00 00 0000 00
+A 00 00 07 0007 01
+Q 02 00 00 0000 00
+R 02 00 00 0000 00
+A 00 00 02 0002 02
+R 07 00 00 0000 00
+Q 07 00 00 0000 00
+Q 05 00 00 0000 00
+A 00 00 05 0005 02
+R 02 00 00 0000 00
+A 00 00 07 0007 01
+R 05 00 00 0000 00
+R 07 00 00 0000 00
+A 00 14 00 0000 00
+";
+
 /// The trace of a listing is the first four characters of each line.
 pub fn trace_of(listing: &str) -> Vec<u8> {
     let lines = listing.lines().map(|line| format!("{}\n", &line[..4]));
@@ -117,19 +211,26 @@ fn listed(name: &str, file: Vec<u8>, stated: &'static str) -> [Kind; 2] {
     ]
 }
 
-/// A trace for the worked table, with the listing's last line as the rules state it.
-fn ending(name: &str, trace: &'static str, stated: &'static str) -> Kind {
+/// The last line of the reference's listing.
+fn last_line(trace: &str) -> String {
+    let listing = listing::listing(Some(&WORKED_TABLE), trace.as_bytes());
+    let listing = String::from_utf8_lossy(&listing);
+    listing.lines().last().unwrap_or("").to_string()
+}
+
+fn ending((name, trace, stated): Ending) -> Kind {
     Kind::named(name, move |met| {
         hold(Some(&WORKED_TABLE), trace.as_bytes(), met)?;
-        let listing = listing::listing(Some(&WORKED_TABLE), trace.as_bytes());
-        let listing = String::from_utf8_lossy(&listing).into_owned();
-        expect(listing.lines().last().unwrap_or(""), stated)
+        expect(&last_line(trace)[..], stated)
     })
 }
 
 const MALFORMED: &str = "---- 18 00 0000 00";
 
-fn malformed() -> Vec<Kind> {
+/// A trace for the worked table, with the last line of its listing as the rules state it.
+type Ending = (&'static str, &'static str, &'static str);
+
+fn malformed() -> Vec<Ending> {
     [
         ("line-ended-by-cr-lf", "Q 02\r\nQ 05\r\n"),
         ("blank-line", "Q 02\n\nQ 05\n"),
@@ -143,41 +244,81 @@ fn malformed() -> Vec<Kind> {
         ("one-byte", "Q"),
         ("listing-line-as-trace", "Q 02 00 00 0000 00\n"),
     ]
-    .map(|(name, trace)| ending(name, trace, MALFORMED))
+    .map(|(name, trace)| (name, trace, MALFORMED))
     .into()
 }
 
-fn slips() -> Vec<Kind> {
+fn slips() -> Vec<Ending> {
     vec![
-        ending("empty-trace", "", ""),
-        ending(
+        ("empty-trace", "", ""),
+        (
             "holder-asks-again",
             "Q 02\nA 00\nQ 02\n",
             "Q 02 00 00 0000 00",
         ),
-        ending("asks-twice", "Q 02\nQ 02\n", "Q 02 12 00 0000 00"),
-        ending(
+        ("asks-twice", "Q 02\nQ 02\n", "Q 02 12 00 0000 00"),
+        (
             "last-winner-is-not-less-than-itself",
             "Q 05\nA 00\nQ 05\nQ 02\nR 05\nA 00\n",
             "A 00 00 02 0010 03",
         ),
-        ending(
+        (
             "last-winner-stays-after-release",
             "Q 06\nA 00\nR 06\nQ 02\nQ 05\nA 00\n",
             "A 00 00 05 0013 02",
         ),
-        ending(
+        (
             "lines-start-from-the-last-settled-value",
             "Q 05\nA 00\nR 05\nQ 05\nA 00\n",
             "A 00 00 05 0005 00",
         ),
-        ending(
+        (
             "a-refused-arbitration-leaves-the-lines",
             "Q 06\nA 00\nA 00\nR 06\nA 00\nQ 06\nA 00\n",
             "A 00 00 06 0006 00",
         ),
-        ending("release-on-a-free-bus", "R 02\n", "R 02 15 00 0000 00"),
-        ending(
+        (
+            "a-refused-election-leaves-the-lines",
+            "Q 06\nQ 05\nA 00\nA 00\nA 00\nR 06\nQ 05\nA 00\n",
+            "A 00 00 05 0005 02",
+        ),
+        (
+            "elected-card-asks-too-early",
+            "Q 06\nQ 05\nA 00\nA 00\nQ 05\n",
+            "Q 05 12 00 0000 00",
+        ),
+        (
+            "elected-card-asks-once-it-holds",
+            "Q 06\nQ 05\nA 00\nA 00\nR 06\nQ 05\n",
+            "Q 05 00 00 0000 00",
+        ),
+        (
+            "elected-card-releases-too-early",
+            "Q 06\nQ 05\nA 00\nA 00\nR 05\n",
+            "R 05 15 00 0000 00",
+        ),
+        (
+            "elected-card-releases-once-it-holds",
+            "Q 06\nQ 05\nA 00\nA 00\nR 06\nR 05\n",
+            "R 05 00 00 0000 00",
+        ),
+        (
+            "holder-that-handed-on-releases-again",
+            "Q 06\nQ 05\nA 00\nA 00\nR 06\nR 06\n",
+            "R 06 15 00 0000 00",
+        ),
+        (
+            "second-election",
+            "Q 06\nQ 05\nQ 02\nA 00\nA 00\nA 00\n",
+            "A 00 13 00 0000 00",
+        ),
+        (
+            "election-with-nobody-waiting",
+            "Q 06\nA 00\nA 00\n",
+            "A 00 14 00 0000 00",
+        ),
+        ("release-on-a-free-bus", "R 02\n", "R 02 15 00 0000 00"),
+        (
             "release-of-no-card-on-a-held-bus",
             "Q 02\nA 00\nR 03\n",
             "R 03 11 00 0000 00",
@@ -199,7 +340,7 @@ fn unreadable_table() -> Result<(), String> {
 }
 
 /// The listings that are written out here, each with its table.
-fn written() -> [(&'static str, Vec<u8>, &'static str); 5] {
+fn written() -> [(&'static str, Vec<u8>, &'static str); 9] {
     let under = |rule| file_with(3, rule, &[(2, 1), (5, 2), (6, 3), (7, 4)]);
     [
         ("worked-listing", WORKED_TABLE.to_vec(), WORKED_LISTING),
@@ -207,6 +348,10 @@ fn written() -> [(&'static str, Vec<u8>, &'static str); 5] {
         ("P10-listing", under(2), P10_LISTING),
         ("batch-listing", under(3), BATCH_LISTING),
         ("inhibit-listing", under(4), INHIBIT_LISTING),
+        ("fixed-elections", under(0), FIXED_ELECTIONS),
+        ("arrival-elections", under(2), ARRIVAL_ELECTIONS),
+        ("batch-elections", under(3), BATCH_ELECTIONS),
+        ("inhibit-elections", under(4), INHIBIT_ELECTIONS),
     ]
 }
 
@@ -222,14 +367,13 @@ pub fn kinds() -> Vec<Kind> {
     kinds.push(Kind::named("table-that-cannot-be-read", |_| {
         unreadable_table()
     }));
-    kinds.extend(malformed());
-    kinds.extend(slips());
+    kinds.extend(malformed().into_iter().chain(slips()).map(ending));
     kinds
 }
 
 #[cfg(test)]
 mod tests {
-    use super::{trace_of, written};
+    use super::{last_line, malformed, slips, trace_of, written};
     use crate::judge::traces::same;
     use crate::listing::listing;
 
@@ -238,6 +382,13 @@ mod tests {
         for (name, file, stated) in written() {
             let listed = listing(Some(&file), &trace_of(stated));
             assert_eq!(same(&listed, stated.as_bytes()), Ok(()), "{name}");
+        }
+    }
+
+    #[test]
+    fn the_reference_ends_as_stated() {
+        for (name, trace, stated) in malformed().into_iter().chain(slips()) {
+            assert_eq!(last_line(trace), stated, "{name}");
         }
     }
 }

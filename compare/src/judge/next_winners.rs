@@ -1,6 +1,7 @@
 //! Who is next, asked of `rackstate`.
 
 use super::asked::{hold, hold_expecting};
+use super::every_state;
 use super::expect::{expect, shown};
 use super::kind::Kind;
 use super::met::Met;
@@ -117,12 +118,16 @@ static KNOWN: [Known; 19] = [
     known("after-card-32-of-6-bits", 6, 32, &[63, 32], 63),
 ];
 
-/// Whatever the lines carry.
+/// On a free bus, and by the last winner's holding it, whatever the lines carry.
 fn names(known: &Known, program: &Shared, met: &mut Met) -> Result<(), String> {
     let mut rack = rack_of(known.k, ROUND_ROBIN, known.waiting);
     rack.last_winner = known.last_winner;
     for kept in 0..1 << rack.lines() {
         rack.kept = kept;
+        rack.bus = match known.last_winner {
+            winner if winner != 0 && kept % 2 == 1 => Bus::Held(winner),
+            _ => Bus::Free,
+        };
         let answers = hold_foretelling(program, &both_asked(&rack), met)?;
         expect(&answers[0][STATE..], &[0, known.next, 0, 0, 0])?;
     }
@@ -155,10 +160,23 @@ fn refused(
     Kind::named(name, move |met| refuses(number, &rack(), &by, met))
 }
 
-/// Card 5 holds the bus, and these wait.
-fn held(rule: u8, waiting: &[u8]) -> Rack {
+/// Card 3 holds the bus, card 5 is elected to follow, and these wait.
+fn followed(rule: u8, waiting: &[u8]) -> Rack {
     let mut rack = rack_of(3, rule, waiting);
-    (rack.bus, rack.last_winner) = (Bus::Held(5), 5);
+    (rack.bus, rack.last_winner) = (
+        Bus::Followed {
+            holder: 3,
+            elected: 5,
+        },
+        5,
+    );
+    rack
+}
+
+/// Card 3 holds the bus and nobody waits.
+fn held() -> Rack {
+    let mut rack = rack_of(3, ROUND_ROBIN, &[]);
+    (rack.bus, rack.last_winner) = (Bus::Held(3), 3);
     rack
 }
 
@@ -170,13 +188,14 @@ fn miscounted(mut rack: Rack) -> Rack {
 
 fn refusals(program: &Shared) -> Vec<Kind> {
     let mut kinds = vec![
-        refused("next-13", 13, || held(1, &[2, 6]), program),
-        refused("next-13-before-14", 13, || held(1, &[]), program),
+        refused("next-13", 13, || followed(1, &[2, 6]), program),
+        refused("next-13-before-14", 13, || followed(1, &[]), program),
         refused("next-14", 14, || rack_of(3, 1, &[]), program),
+        refused("next-14-on-a-held-bus", 14, held, program),
         refused(
             "next-17-before-13",
             17,
-            || miscounted(held(1, &[2])),
+            || miscounted(followed(1, &[2])),
             program,
         ),
         refused(
@@ -199,7 +218,7 @@ fn refusals(program: &Shared) -> Vec<Kind> {
             refused(
                 name("32-before-13"),
                 32,
-                move || held(rule, &[2, 6]),
+                move || followed(rule, &[2, 6]),
                 program,
             ),
             refused(
@@ -211,7 +230,7 @@ fn refusals(program: &Shared) -> Vec<Kind> {
             refused(
                 name("17-before-32"),
                 17,
-                move || miscounted(held(rule, &[2])),
+                move || miscounted(followed(rule, &[2])),
                 program,
             ),
         ]);
@@ -219,49 +238,34 @@ fn refusals(program: &Shared) -> Vec<Kind> {
     kinds
 }
 
-/// Every well-formed state of three cards under round-robin.
+/// Every well-formed state of three cards under round-robin, with everything on the lines.
 fn small_racks() -> Vec<Rack> {
-    let mut racks = Vec::new();
-    for waiting in 0..8 {
-        let cards: Vec<u8> = (1..=3)
-            .filter(|card| waiting >> (card - 1) & 1 == 1)
-            .collect();
-        for (last_winner, kept) in (0..=3).flat_map(|last| (0..8).map(move |kept| (last, kept))) {
-            let rack = Rack {
-                last_winner,
-                kept,
-                ..rack_of(2, ROUND_ROBIN, &cards)
-            };
-            racks.push(rack);
-            if last_winner != 0 {
-                let bus = Bus::Held(last_winner);
-                racks.push(Rack { bus, ..rack });
-            }
-        }
-    }
-    racks
+    let with_any_kept = |rack: Rack| (0..1 << rack.lines()).map(move |kept| Rack { kept, ..rack });
+    let states = every_state::states(ROUND_ROBIN).into_iter();
+    states.flat_map(with_any_kept).collect()
 }
 
 fn every_small_rack(program: &Shared) -> Kind {
     let by = program.clone();
     Kind::named("next-in-every-state-of-3-cards", move |met| {
         let mut racks = small_racks().into_iter();
-        racks.try_for_each(|rack| {
-            expect(rack.is_well_formed(), true)?;
-            hold_foretelling(&by, &both_asked(&rack), met).map(|_| ())
-        })
+        racks.try_for_each(|rack| hold_foretelling(&by, &both_asked(&rack), met).map(|_| ()))
     })
 }
 
-/// Who is next in a generated state, after each card that may have won last and after none.
+/// Who is next in a generated state, after each card that may have won last and after none. The
+/// winner may still have the bus.
 pub fn after_every_winner(program: &Shared) -> Kind {
     let by = program.clone();
     Kind::new("state-next-after-every-winner", 2, move |rng, met| {
         let mut rack = sound(ROUND_ROBIN, rng);
-        rack.bus = Bus::Free;
         let mut winners = rack.table.numbers().into_iter().chain([0]);
         winners.try_for_each(|last_winner| {
             rack.last_winner = last_winner;
+            rack.bus = match rng.chance(1, 2) && last_winner != 0 {
+                true => Bus::Held(last_winner),
+                false => Bus::Free,
+            };
             hold_foretelling(&by, &both_asked(&rack), met).map(|_| ())
         })
     })
@@ -292,7 +296,7 @@ mod tests {
     #[test]
     fn the_reference_foretells_in_every_small_rack() {
         let racks = small_racks();
-        assert_eq!(racks.len(), 8 * 8 * (1 + 2 * 3));
+        assert_eq!(racks.len(), 8 * 8 * 16);
         for rack in racks {
             let records = both_asked(&rack);
             let answers = records.clone().map(|record| answer(&record));

@@ -7,7 +7,8 @@ use super::expect::shown;
 use super::kind::Kind;
 use super::met::Met;
 use super::trace_maker::{
-    asks_again, blind, crowded, full_table_file, mixed, renewing, saturated, table_file, Maker,
+    asks_again, blind, crowded, electing, full_table_file, mixed, renewing, saturated, table_file,
+    Maker,
 };
 use crate::figures::MOST_EVENTS;
 use crate::rackreport;
@@ -97,7 +98,7 @@ fn full_rack() -> Vec<Kind> {
             let name = format!("report-63-cards-rule-{rule}");
             Kind::new(name, 5, move |rng, met| {
                 let file = full_table_file(rule, rng);
-                let make = *rng.pick(&[mixed as MakeTrace, saturated, crowded]);
+                let make = *rng.pick(&[mixed as MakeTrace, saturated, electing, crowded]);
                 let trace = make(&file, rng.between(100, 1500) as usize, rng);
                 hold(Some(&file), &trace, met)
             })
@@ -142,7 +143,7 @@ fn long() -> Vec<Kind> {
     vec![
         Kind::new("report-long", 1, |rng, met| {
             let file = table_file(any_rule(rng), rng);
-            let make = *rng.pick(&[mixed as MakeTrace, saturated, crowded, blind]);
+            let make = *rng.pick(&[mixed as MakeTrace, saturated, electing, crowded, blind]);
             let trace = make(&file, rng.between(20_000, 60_000) as usize, rng);
             hold(Some(&file), &trace, met)
         }),
@@ -192,6 +193,7 @@ pub fn kinds() -> Vec<Kind> {
     let mut kinds = with_rule("mixed", 20, mixed);
     kinds.extend(with_rule("blind", 5, blind));
     kinds.extend(with_rule("saturated", 10, saturated));
+    kinds.extend(with_rule("electing", 10, electing));
     kinds.extend(with_rule("asks-again", 10, asks_again));
     kinds.extend(with_rule("crowded", 20, crowded));
     kinds.extend(full_rack());

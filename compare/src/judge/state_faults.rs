@@ -131,6 +131,56 @@ fn holder_is_not_the_last_winner(rack: &mut Rack, rng: &mut Rng) {
     rack.last_winner = *rng.pick(&others);
 }
 
+/// Somebody holds the bus, and who is elected to follow won last.
+fn elect(rack: &mut Rack, holder: u8, elected: u8) {
+    rack.bus = Bus::Followed { holder, elected };
+    rack.last_winner = elected;
+}
+
+/// An elected card beside another last winner, which may be the holder, or none.
+fn elected_is_not_the_last_winner(rack: &mut Rack, rng: &mut Rng) {
+    let (holder, elected) = (any_card(rack, rng), any_card(rack, rng));
+    let mut others = rack.table.numbers();
+    others.push(0);
+    if holder != elected && rng.chance(1, 2) {
+        others = vec![holder];
+    }
+    others.retain(|&card| card != elected);
+    elect(rack, holder, elected);
+    rack.last_winner = *rng.pick(&others);
+}
+
+/// An elected card outside the table, other than 0, can't come alone: if it is the last winner, that
+/// is a fault too, and if it is not, it should be.
+fn election_faults() -> Vec<Fault> {
+    vec![
+        ("stranger-holds-before-an-elected-card", |rack, rng| {
+            let (holder, elected) = (stranger(rack, rng), any_card(rack, rng));
+            elect(rack, holder, elected);
+        }),
+        ("holder-over-63-before-an-elected-card", |rack, rng| {
+            let (holder, elected) = (over(64, rng), any_card(rack, rng));
+            elect(rack, holder, elected);
+        }),
+        ("number-0-elected", |rack, rng| {
+            let holder = any_card(rack, rng);
+            elect(rack, holder, 0);
+        }),
+        ("stranger-elected", |rack, rng| {
+            let (holder, elected) = (any_card(rack, rng), stranger(rack, rng));
+            elect(rack, holder, elected);
+        }),
+        ("elected-over-63", |rack, rng| {
+            let (holder, elected) = (any_card(rack, rng), over(64, rng));
+            elect(rack, holder, elected);
+        }),
+        (
+            "elected-is-not-the-last-winner",
+            elected_is_not_the_last_winner,
+        ),
+    ]
+}
+
 fn winner_faults() -> Vec<Fault> {
     vec![
         ("stranger-waits", |rack, rng| {
@@ -281,6 +331,7 @@ pub fn faults() -> Vec<Fault> {
     [
         table_faults(),
         winner_faults(),
+        election_faults(),
         kept_faults(),
         waiter_faults(),
         count_faults(),

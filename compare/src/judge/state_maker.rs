@@ -67,18 +67,28 @@ pub fn sound(rule: u8, rng: &mut Rng) -> Rack {
     }
     if rng.chance(3, 4) {
         rack.last_winner = *rng.pick(&rack.table.numbers());
-        if rng.chance(1, 3) {
-            rack.bus = Bus::Held(rack.last_winner);
-        }
+        rack.bus = bus(&rack, rng);
     }
     rack
+}
+
+/// A bus whose elected card, or else its holder, is the last winner. The holder before an elected
+/// card is any card, often the same.
+fn bus(rack: &Rack, rng: &mut Rng) -> Bus {
+    let any = *rng.pick(&rack.table.numbers());
+    let winner = rack.last_winner;
+    let followed = Bus::Followed {
+        holder: *rng.pick(&[any, any, winner]),
+        elected: winner,
+    };
+    *rng.pick(&[Bus::Free, Bus::Held(winner), followed])
 }
 
 /// A well-formed state whose arbitration forms a new batch, or clears the inhibitions.
 pub fn to_be_renewed(rule: u8, rng: &mut Rng) -> Rack {
     loop {
         let rack = sound(rule, rng);
-        if rack.is_to_be_renewed() && rack.bus == Bus::Free {
+        if rack.is_to_be_renewed() && rack.bus.elected().is_none() {
             return rack;
         }
     }
@@ -88,9 +98,10 @@ pub fn to_be_renewed(rule: u8, rng: &mut Rng) -> Rack {
 fn card(rack: &Rack, rng: &mut Rng) -> u8 {
     let cards = rack.table.numbers();
     let any = rng.byte();
-    match rng.below(4) {
+    match rng.below(5) {
         0 => rack.last_winner,
         1 => *rng.pick(&[0, 63, 64, 255, any]),
+        2 => rack.bus.holder().unwrap_or(any),
         _ if cards.is_empty() => any,
         _ => *rng.pick(&cards),
     }

@@ -18,18 +18,23 @@ use std::ops::Range;
 
 const WAITING: Range<usize> = 2 + 64..2 + 2 * 64;
 const BATCH_AND_INHIBITED: Range<usize> = 2 + 3 * 64..2 + 5 * 64;
-const HELD: usize = 2 + 5 * 64 + 1;
-const HOLDER: usize = HELD + 1;
+const BUS: usize = 2 + 5 * 64 + 1;
+const HOLDER: usize = BUS + 1;
+const ELECTED: usize = BUS + 2;
 
-/// The same state said otherwise: yes is anything but 0, and a free bus has no holder.
+/// The same state said otherwise: yes is anything but 0, a bus with an elected card anything but 0
+/// and 1, and whoever the bus doesn't have may be anybody.
 fn disguised(mut record: Vec<u8>, rng: &mut Rng) -> Vec<u8> {
-    for at in WAITING.chain(BATCH_AND_INHIBITED).chain([HELD]) {
+    for at in WAITING.chain(BATCH_AND_INHIBITED) {
         if record[at] != 0 && rng.chance(1, 2) {
             record[at] = rng.between(1, 255) as u8;
         }
     }
-    if record[HELD] == 0 {
-        record[HOLDER] = rng.byte();
+    match record[BUS] {
+        0 => (record[HOLDER], record[ELECTED]) = (rng.byte(), rng.byte()),
+        1 => record[ELECTED] = rng.byte(),
+        _ if rng.chance(1, 2) => record[BUS] = rng.between(2, 255) as u8,
+        _ => {}
     }
     record
 }

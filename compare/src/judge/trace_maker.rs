@@ -67,14 +67,7 @@ impl Maker {
         }
     }
 
-    fn holder(&self) -> Option<u8> {
-        match self.rack.bus {
-            Bus::Free => None,
-            Bus::Held(card) => Some(card),
-        }
-    }
-
-    /// Any well-formed line, sensible or not.
+    /// Any well-formed line, sensible or not, often by the holder or the elected card.
     pub fn anything(&mut self, rng: &mut Rng) {
         let card = if self.cards.is_empty() {
             1
@@ -82,7 +75,9 @@ impl Maker {
             *rng.pick(&self.cards)
         };
         let any = rng.below(100) as u8;
-        let number = *rng.pick(&[card, card, card, any]);
+        let holder = self.rack.bus.holder().unwrap_or(card);
+        let elected = self.rack.bus.elected().unwrap_or(card);
+        let number = *rng.pick(&[card, card, holder, elected, any]);
         match rng.below(3) {
             0 => self.push('Q', number),
             1 => self.push('A', 0),
@@ -93,9 +88,11 @@ impl Maker {
     /// A line that is done more often than not.
     pub fn sensible(&mut self, rng: &mut Rng) {
         let card = *rng.pick(&self.cards);
-        match self.holder() {
-            Some(holder) if rng.chance(1, 2) => self.push('R', holder),
-            None if rng.chance(1, 2) => self.push('A', 0),
+        match self.rack.bus {
+            Bus::Free if rng.chance(1, 2) => self.push('A', 0),
+            Bus::Held(_) if rng.chance(1, 4) => self.push('A', 0),
+            Bus::Held(holder) if rng.chance(1, 3) => self.push('R', holder),
+            Bus::Followed { holder, .. } if rng.chance(1, 2) => self.push('R', holder),
             _ => self.push('Q', card),
         }
     }
@@ -109,8 +106,16 @@ impl Maker {
         }
     }
 
-    /// One grant. The winner asks again, while it holds the bus or after.
+    /// The holder lets go, and the card elected to follow too.
+    fn free_the_bus(&mut self) {
+        while let Some(holder) = self.rack.bus.holder() {
+            self.push('R', holder);
+        }
+    }
+
+    /// One grant of a free bus. The winner asks again, while it holds the bus or after.
     pub fn grant_and_ask_again(&mut self, while_holding: bool) {
+        self.free_the_bus();
         self.push('A', 0);
         let winner = self.rack.last_winner;
         if while_holding {
@@ -123,31 +128,76 @@ impl Maker {
     }
 
     fn grant_and_release(&mut self) {
+        self.free_the_bus();
         self.push('A', 0);
         self.push('R', self.rack.last_winner);
     }
 
-    /// Grants until nobody waits, and one arbitration more, which is refused.
-    fn drain(&mut self) {
+    /// The bus is held, and a card is elected to follow. Then one of the two, or any other, may do
+    /// what it can't do now.
+    fn elect(&mut self, rng: &mut Rng) {
+        if self.rack.bus == Bus::Free {
+            self.push('A', 0);
+        }
+        self.push('A', 0);
+        let won = self.rack.last_winner;
+        let card = *rng.pick(&self.cards);
+        match rng.below(12) {
+            0 => self.push('Q', won),
+            1 => self.push('R', won),
+            2 => self.push('R', card),
+            3 => self.push('A', 0),
+            _ => {}
+        }
+    }
+
+    /// One card is elected while another holds the bus, which is then handed on. The card that had
+    /// it asks again, before the election or after its release, or doesn't.
+    fn elect_and_hand_on(&mut self, rng: &mut Rng) {
+        let Some(holder) = self.rack.bus.holder() else {
+            return self.push('A', 0);
+        };
+        let asks = rng.below(5);
+        if asks <= 1 {
+            self.push('Q', holder);
+        }
+        self.elect(rng);
+        self.push('R', holder);
+        if asks == 2 || asks == 3 {
+            self.push('Q', holder);
+        }
+    }
+
+    /// Grants and elections until nobody waits, and one arbitration more, which is refused.
+    fn drain(&mut self, rng: &mut Rng) {
+        let overlapped = rng.chance(1, 2);
         while !self.rack.waiting_cards().is_empty() {
-            self.grant_and_release();
+            match self.rack.bus.holder() {
+                Some(holder) if overlapped => {
+                    self.push('A', 0);
+                    self.push('R', holder);
+                }
+                _ => self.grant_and_release(),
+            }
         }
         self.push('A', 0);
     }
 
-    /// Some cards ask on a free bus and one is granted. Mostly it asks again. Seldom all who wait
-    /// are granted after that.
+    /// Some cards ask and one wins, on a free bus or on one that is held. Mostly it asks again.
+    /// Seldom all who wait win after that.
     fn crowd(&mut self, rng: &mut Rng) {
         for _ in 0..rng.between(1, 4) {
             let card = *rng.pick(&self.cards);
             self.push('Q', card);
         }
-        match rng.below(4) {
+        match rng.below(8) {
             0 => self.grant_and_release(),
-            other => self.grant_and_ask_again(other == 1),
+            1 => self.grant_and_ask_again(true),
+            2 | 3 => self.grant_and_ask_again(false),
+            _ => self.elect_and_hand_on(rng),
         }
         if rng.chance(1, 20) {
-            self.drain();
+            self.drain(rng);
         }
     }
 }
@@ -184,6 +234,20 @@ pub fn saturated(file: &[u8], lines: usize, rng: &mut Rng) -> Vec<u8> {
     maker.trace()
 }
 
+/// Most cards ask most of the time, and the bus is handed on from one to the next.
+pub fn electing(file: &[u8], lines: usize, rng: &mut Rng) -> Vec<u8> {
+    let mut maker = Maker::new(file);
+    maker.all_ask(rng);
+    while maker.lines() < lines {
+        maker.elect_and_hand_on(rng);
+        if rng.chance(1, 4) {
+            let card = *rng.pick(&maker.cards);
+            maker.push('Q', card);
+        }
+    }
+    maker.trace()
+}
+
 /// Few others ask, so that the last winner meets itself again and again.
 pub fn asks_again(file: &[u8], lines: usize, rng: &mut Rng) -> Vec<u8> {
     let mut maker = Maker::new(file);
@@ -191,10 +255,10 @@ pub fn asks_again(file: &[u8], lines: usize, rng: &mut Rng) -> Vec<u8> {
     while maker.lines() < lines {
         if rng.chance(1, 3) {
             maker.sensible(rng);
-        } else if maker.holder().is_none() && !maker.rack.waiting_cards().is_empty() {
+        } else if maker.rack.bus == Bus::Free && !maker.rack.waiting_cards().is_empty() {
             let while_holding = rng.chance(1, 2);
             maker.grant_and_ask_again(while_holding);
-        } else if let Some(holder) = maker.holder() {
+        } else if let Some(holder) = maker.rack.bus.holder() {
             maker.push('R', holder);
         } else {
             maker.sensible(rng);

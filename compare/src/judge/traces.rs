@@ -8,7 +8,7 @@ use super::guarded::noise;
 use super::kind::Kind;
 use super::met::Met;
 use super::trace_maker::{
-    asks_again, blind, full_table_file, mixed, renewing, saturated, table_file,
+    asks_again, blind, electing, full_table_file, mixed, renewing, saturated, table_file,
 };
 use super::waiting_counts;
 use crate::listing::{LISTING_LINE, TRACE_LINE};
@@ -97,7 +97,7 @@ fn full_rack() -> Vec<Kind> {
         .map(|rule| {
             Kind::new(format!("trace-63-cards-rule-{rule}"), 5, move |rng, met| {
                 let file = full_table_file(rule, rng);
-                let make = *rng.pick(&[mixed as MakeTrace, saturated]);
+                let make = *rng.pick(&[mixed as MakeTrace, saturated, electing]);
                 let lines = rng.between(100, 600) as usize;
                 let trace = make(&file, lines, rng);
                 hold(Some(&file), &trace, met)
@@ -130,7 +130,7 @@ fn renewals() -> Vec<Kind> {
 fn long() -> Kind {
     Kind::new("trace-long", 1, |rng, met| {
         let file = table_file(any_rule(rng), rng);
-        let make = *rng.pick(&[mixed as MakeTrace, saturated, blind]);
+        let make = *rng.pick(&[mixed as MakeTrace, saturated, electing, blind]);
         let lines = rng.between(20_000, 60_000) as usize;
         let mut trace = make(&file, lines, rng);
         trace.truncate(trace.len() - *rng.pick(&[0, 0, 1, 4]));
@@ -243,6 +243,7 @@ pub fn kinds() -> Vec<Kind> {
     let mut kinds = with_rule("mixed", 25, mixed);
     kinds.extend(with_rule("blind", 10, blind));
     kinds.extend(with_rule("saturated", 15, saturated));
+    kinds.extend(with_rule("electing", 15, electing));
     kinds.extend(with_rule("asks-again", 10, asks_again));
     kinds.extend(full_rack());
     kinds.extend(renewals());

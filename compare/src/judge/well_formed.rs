@@ -50,6 +50,12 @@ fn wait(rack: &mut Rack, card: u8) {
     rack.waiters = rack.recount();
 }
 
+/// The elected card is the last winner.
+fn elect(rack: &mut Rack, holder: u8, elected: u8) {
+    rack.bus = Bus::Followed { holder, elected };
+    rack.last_winner = elected;
+}
+
 /// Whatever is asked of the worked table's fresh state with one fault gives 17.
 fn ill_formed(program: &Shared, name: &str, fault: fn(&mut Rack)) -> Kind {
     let program = program.clone();
@@ -86,6 +92,30 @@ fn ill_formed_states() -> Vec<Fault> {
         ("holder-is-not-the-last-winner", |rack| {
             rack.bus = Bus::Held(5);
             rack.last_winner = 2;
+        }),
+        ("stranger-holds-before-an-elected-card", |rack| {
+            elect(rack, 3, 5)
+        }),
+        ("number-0-holds-before-an-elected-card", |rack| {
+            elect(rack, 0, 5)
+        }),
+        ("holder-64-before-an-elected-card", |rack| {
+            elect(rack, 64, 5)
+        }),
+        ("stranger-elected", |rack| elect(rack, 5, 3)),
+        ("number-0-elected", |rack| elect(rack, 5, 0)),
+        ("number-64-elected", |rack| elect(rack, 5, 64)),
+        ("elected-is-not-the-last-winner", |rack| {
+            elect(rack, 5, 2);
+            rack.last_winner = 6;
+        }),
+        ("holder-is-the-last-winner-and-not-the-elected", |rack| {
+            elect(rack, 5, 2);
+            rack.last_winner = 5;
+        }),
+        ("elected-and-no-last-winner", |rack| {
+            elect(rack, 5, 2);
+            rack.last_winner = 0;
         }),
         ("kept-16-on-4-lines", |rack| rack.kept = 16),
         ("kept-256-on-4-lines", |rack| rack.kept = 256),
@@ -234,8 +264,14 @@ fn starts_from_the_kept_value(program: &Shared, met: &mut Met) -> Result<(), Str
 /// A request, a release and refused events leave the lines alone.
 fn others_keep_the_kept_value(program: &Shared, met: &mut Met) -> Result<(), String> {
     let mut rack = keeping(1, 15);
-    (rack.bus, rack.last_winner) = (Bus::Held(6), 6);
-    let asked = [(b'Q', 5, 0), (b'R', 6, 0), (b'A', 0, 13), (b'Q', 2, 12)];
+    elect(&mut rack, 6, 5);
+    let asked = [
+        (b'Q', 6, 0),
+        (b'R', 6, 0),
+        (b'A', 0, 13),
+        (b'Q', 2, 12),
+        (b'Q', 5, 12),
+    ];
     for (letter, number, stated) in asked {
         let ask = Ask { letter, number };
         let answer = hold_expecting(stated, &rack, ask, program, met)?;

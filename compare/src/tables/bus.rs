@@ -47,16 +47,24 @@ impl Bus {
         Ok(bus)
     }
 
-    /// Runs until the next transaction has been granted, and gives it with its end.
+    /// Runs until the next transaction has been granted, and gives it with its end. An arbitration
+    /// that begins while a transaction is under way elects who is to follow.
     pub fn serve(&mut self) -> Result<Served, String> {
         let arbitration = self.arbitration_start();
-        self.pass_requests(arbitration.min(self.ends));
-        if let Some(card) = self.holder {
-            self.arbiter.release(card);
+        if arbitration >= self.ends {
+            self.release();
         }
         self.pass_requests(arbitration);
         let winner = self.arbiter.arbitrate()?;
+        self.release();
         self.grant(winner, arbitration)
+    }
+
+    /// The transaction under way comes to its end, if it has not yet.
+    fn release(&mut self) {
+        if let Some(card) = self.holder.take() {
+            self.arbiter.release(card);
+        }
     }
 
     /// At the start of a transaction if requests wait then, or else with the next request.
@@ -66,7 +74,8 @@ impl Bus {
     }
 
     /// Requests that come after the start of an arbitration don't compete in it, so the arbiter
-    /// hears of them only after it.
+    /// hears of them only after it. Nobody asks before the end of its own transaction, so that an
+    /// elected card doesn't either.
     fn pass_requests(&mut self, until: f64) {
         let mut coming: Vec<usize> = (0..self.asks.len())
             .filter(|&place| !self.heard[place] && self.asks[place] <= until)

@@ -4,6 +4,7 @@ use mathlib.Core.Path.{refl}
 use Rattle.arbiter.proofs as arbiter
 use Rattle.one_result.proofs.Laws.{one-result}
 use Rattle.one_result.specs.Determined.{Determined}
+use Rattle.rules.specs.Marks.{marks}
 
 pub state-of-determined : Determined arbiter.state_of.ended arbiter.state_of.Reads.Learnt
 state-of-determined κ a x y b c p q = (one-result p q, refl)
@@ -18,9 +19,8 @@ request-in-determined κ a x y b c p q =
 
 pub release-in-determined : Determined arbiter.«release_in».ended arbiter.«release_in».Reads.Learnt
 release-in-determined κ a x y b c p q =
-    let reply = one-result (p .left 0 [] [] [] .reply) (q .left 0 [] [] [] .reply) in
-    let left = one-result (p .left 0 [] [] [] .marks-left) (q .left 0 [] [] [] .marks-left) in
-    (reply, λ i. (tt, (tt, (tt, (left i .inhibited, (tt, (tt, tt)))))))
+    let none = marks [] [] [] [] in
+    (one-result (p .left 0 0 none .reply) (q .left 0 0 none .reply), refl)
 
 pub arbitrate-in-determined : Determined arbiter.«arbitrate_in».ended arbiter.«arbitrate_in».Reads.Learnt
 arbitrate-in-determined κ a x y b c p q =

@@ -2,22 +2,26 @@
 use Prim.Native.Nat.{ℕ, _+_, _-_, _^_, _<_}
 use native.Mathlib.Omega.{arith}
 use mathlib.Core.Bool.{Bool, true, false, cond, not, _&&_, true≢false, false≢true}
+use mathlib.Core.List.{List}
 use mathlib.Core.Logic.{_⊎_, inl, inr, _≢_}
 use mathlib.Core.Path.{_≡_, refl, sym, ap, _∙_}
 use lib.Dec.{ltb, eqb}
-use lib.ListN.{length, set, replicate, length-set, length-replicate}
+use lib.ListN.{length, set, replicate, length-set}
 use lib.Pow.{pow-pos}
 use lib.Seq.{getD-set-same, getD-set-other}
 use borrow.Author.Tests.{lt-ltb, eq-eqb, eqb-true}
 use Rattle.arbiter.proofs.Formed.{Mark, Formed, formed-of, of-formed, same-mark}
 use Rattle.arbiter.proofs.Laws.{winner-count, loser-count, other-count, counts-length, not-full}
 use Rattle.arbiter.proofs.Numbers.{competitor-waits, wide, greatest-fits, value-greatest}
+use Rattle.arbiter.proofs.Open.{inhibited-now-size}
 use Rattle.arbiter.proofs.Seen.{NoGrant, refused, full, asked, handed, Seen, seen, quiet, grant}
 use Rattle.arbiter.proofs.Tests.{and-right, both, or-so, set-default, replicate-default}
 use Rattle.arbiter.proofs.Winner.{Won}
-use Rattle.arbiter.specs.Arbitrate.{somePreferred, batchNow, inhibitedNow, valueNow, someLoserFull, granted, eventOf}
-use Rattle.arbiter.specs.Events.{requested, released}
-use Rattle.arbiter.specs.State.{waits, countOf, inBatch, isCard, linesOf, recount, wellFormed}
+use Rattle.arbiter.specs.Arbitrate.{somePreferred, batchNow, inhibitedNow, valueNow, someLoserFull, wonBus, inhibitedBy, granted, eventOf}
+use Rattle.arbiter.specs.Events.{requested, handedOn, released}
+use Rattle.arbiter.specs.State.{waits, countOf, inBatch, isCard, isClosed, holderOk, linesOf, recount, wellFormed}
+use Rattle.arbiter.specs.declared.Bus.{Bus}
+use Rattle.arbiter.specs.declared.Bus.the-variants.{Free, Held, Elected}
 use Rattle.arbiter.specs.declared.RackState.{RackState}
 use Rattle.cards.proofs.Below.{same-or-not}
 use Rattle.cards.proofs.Counted.{count-most, count-one-more}
@@ -66,40 +70,26 @@ requested-formed s c t new f =
     go n mark (inr q) =
         same-mark s (requested s c) n refl (getD-set-other (s .waiting) c n true false q) (getD-set-other (s .counts) c n 0 0 q) refl refl mark
 
-released-formed : (s : RackState) (c : ℕ) → inTable (s .table .slots) c ≡ true → Formed s → Formed (released s c)
-released-formed s c known f =
+-- the bus goes on to the elected card, which is the last winner, or to nobody
+handed-ok : (slots : List ℕ) (last : ℕ) (bus : Bus) → holderOk slots last bus ≡ true → holderOk slots last (handedOn bus) ≡ true
+handed-ok slots last Free ok = refl
+handed-ok slots last (Held h) ok = refl
+handed-ok slots last (Elected h e) ok = and-right (inTable slots h) _ ok
+
+released-formed : (s : RackState) (c : ℕ) → Formed s → Formed (released s c)
+released-formed s c f =
     record {
       table-good = f .table-good;
       waiting-size = f .waiting-size;
       counts-size = f .counts-size;
       batch-size = f .batch-size;
-      inhibited-size = size (eqb (s .table .rule) 4) ∙ f .inhibited-size;
-      marks = λ n l. mark-after n (f .marks n l);
+      inhibited-size = f .inhibited-size;
+      marks = λ n l. same-mark s (released s c) n refl refl refl refl refl (f .marks n l);
       last-known = f .last-known;
-      bus-known = refl;
+      bus-known = handed-ok (s .table .slots) (s .last) (s .bus) (f .bus-known);
       value-small = f .value-small;
       waiters-counted = f .waiters-counted;
     }
-  where
-    size : (u : Bool) → length (cond u (set (s .inhibited) c true) (s .inhibited)) ≡ length (s .inhibited)
-    size true = length-set (s .inhibited) c true
-    size false = refl
-
-    barred-after : (n : ℕ) → Mark s n → (u : Bool) → eqb (s .table .rule) 4 ≡ u → (n ≡ c) ⊎ (n ≢ c)
-        → isIn (cond u (set (s .inhibited) c true) (s .inhibited)) n ≡ true → (isCard s n ≡ true) × (s .table .rule ≡ 4)
-    barred-after n mark true e (inl p) t = (rw p (table-card (s .table .slots) c known), eqb-true (s .table .rule) 4 e)
-    barred-after n mark true e (inr d) t = mark .barred (sym (getD-set-other (s .inhibited) c n true false d) ∙ t)
-    barred-after n mark false e _ t = mark .barred t
-
-    mark-after : (n : ℕ) → Mark s n → Mark (released s c) n
-    mark-after n mark =
-        record {
-          in-table = mark .in-table;
-          small = mark .small;
-          counted = mark .counted;
-          batched = mark .batched;
-          barred = barred-after n mark (eqb (s .table .rule) 4) refl (same-or-not n c);
-        }
 
 -- the sets as an arbitration takes them, of 64 places each, and whom they hold
 module _ (s : RackState) (f : Formed s) where
@@ -110,14 +100,6 @@ module _ (s : RackState) (f : Formed s) where
       go : (u : Bool) → length (cond u (s .waiting) (s .batch)) ≡ 64
       go true = f .waiting-size
       go false = f .batch-size
-
-  inhibited-now-size : length (inhibitedNow s) ≡ 64
-  unfolding inhibitedNow
-  inhibited-now-size = go (not (somePreferred s) && eqb (s .table .rule) 4)
-    where
-      go : (u : Bool) → length (cond u (replicate 64 false) (s .inhibited)) ≡ 64
-      go true = length-replicate 64 false
-      go false = f .inhibited-size
 
   batch-now : (n : ℕ) → n < 64 → isIn (batchNow s) n ≡ true → (waits s n ≡ true) × (s .table .rule ≡ 3)
   unfolding batchNow
@@ -140,8 +122,16 @@ module _ (s : RackState) (f : Formed s) where
   value-now : valueNow s < 2 ^ linesOf s
   value-now = rw (value-greatest s f) (greatest-fits s (linesOf s) (wide s f) 64)
 
+-- the winner holds a free bus, or is elected beside a holder that is a card of the table
+won-ok : (slots : List ℕ) (last w : ℕ) (bus : Bus) → isClosed bus ≡ false → holderOk slots last bus ≡ true → inTable slots w ≡ true
+    → holderOk slots w (wonBus bus w) ≡ true
+won-ok slots last w Free free ok known = both (eqb w w) (inTable slots w) (eq-eqb w w refl) known
+won-ok slots last w (Held h) free ok known =
+    both (inTable slots h) _ (and-right (eqb h last) _ ok) (both (eqb w w) (inTable slots w) (eq-eqb w w refl) known)
+won-ok slots last w (Elected h e) free ok known = absurd (true≢false free)
+
 -- a grant to w
-module _ (s : RackState) (w : ℕ) (room : someLoserFull s w ≡ false) (won : Won s w) where
+module _ (s : RackState) (w : ℕ) (free : isClosed (s .bus) ≡ false) (room : someLoserFull s w ≡ false) (won : Won s w) where
   winner-known : inTable (s .table .slots) w ≡ true
   unfolding inTable
   winner-known = both (ltb w 64) (isCard s w) (lt-ltb w 64 (won .below)) (won .card)
@@ -158,6 +148,23 @@ module _ (s : RackState) (w : ℕ) (room : someLoserFull s w ≡ false) (won : W
       go true (inl e) t = more t e (omega (arith, not-full s w n room l d e t)) (rw t at (loser-count s w n l d e))
       go false (inl e) t = same (omega (arith, rw t at (loser-count s w n l d e)))
       go _ (inr m) t = same (other-count s w n d m)
+
+  -- the inhibited cards, the winner among them under rule 4
+  barred-after : (n : ℕ) → n < 64 → isIn (inhibitedBy (s .table .rule) (inhibitedNow s) w) n ≡ true → (isCard s n ≡ true) × (s .table .rule ≡ 4)
+  barred-after n l = go (eqb (s .table .rule) 4) refl (same-or-not n w)
+    where
+      go : (u : Bool) → eqb (s .table .rule) 4 ≡ u → (n ≡ w) ⊎ (n ≢ w) → isIn (cond u (set (inhibitedNow s) w true) (inhibitedNow s)) n ≡ true
+          → (isCard s n ≡ true) × (s .table .rule ≡ 4)
+      go true e (inl p) t = (rw p (won .card), eqb-true (s .table .rule) 4 e)
+      go true e (inr d) t = inhibited-now s (won .formed) n l (sym (getD-set-other (inhibitedNow s) w n true false d) ∙ t)
+      go false e _ t = inhibited-now s (won .formed) n l t
+
+  inhibited-after-size : length (inhibitedBy (s .table .rule) (inhibitedNow s) w) ≡ 64
+  inhibited-after-size = go (eqb (s .table .rule) 4)
+    where
+      go : (u : Bool) → length (cond u (set (inhibitedNow s) w true) (inhibitedNow s)) ≡ 64
+      go true = length-set (inhibitedNow s) w true ∙ inhibited-now-size s (won .formed)
+      go false = inhibited-now-size s (won .formed)
 
   mark-after : (n : ℕ) → n < 64 → Mark (granted s w) n
   unfolding granted
@@ -176,7 +183,7 @@ module _ (s : RackState) (w : ℕ) (room : someLoserFull s w ≡ false) (won : W
             small = rw q (mark .small);
             counted = λ h. (p ∙ mark .counted (λ z. h (q ∙ z)) .0, mark .counted (λ z. h (q ∙ z)) .1);
             batched = batched-after d p;
-            barred = inhibited-now s (won .formed) n l;
+            barred = barred-after n l;
           }
       loser mark d p (more t e small q) =
           record {
@@ -184,7 +191,7 @@ module _ (s : RackState) (w : ℕ) (room : someLoserFull s w ≡ false) (won : W
             small = rw q small;
             counted = λ h. (p ∙ t, e);
             batched = batched-after d p;
-            barred = inhibited-now s (won .formed) n l;
+            barred = barred-after n l;
           }
 
       go : Mark s n → (n ≡ w) ⊎ (n ≢ w) → Mark (granted s w) n
@@ -195,7 +202,7 @@ module _ (s : RackState) (w : ℕ) (room : someLoserFull s w ≡ false) (won : W
             small = rw zero-count (pow-pos (s .table .k));
             counted = λ h. absurd (h zero-count);
             batched = λ t. absurd (false≢true (sym (rw p (set-default (batchNow s) w false)) ∙ t));
-            barred = inhibited-now s (won .formed) n l;
+            barred = barred-after n l;
           }
         where
           zero-count : countOf (granted s w) n ≡ 0
@@ -217,10 +224,10 @@ module _ (s : RackState) (w : ℕ) (room : someLoserFull s w ≡ false) (won : W
         waiting-size = length-set (s .waiting) w false ∙ won .formed .waiting-size;
         counts-size = counts-length s w (won .formed .counts-size);
         batch-size = length-set (batchNow s) w false ∙ batch-now-size s (won .formed);
-        inhibited-size = inhibited-now-size s (won .formed);
+        inhibited-size = inhibited-after-size;
         marks = mark-after;
         last-known = or-so (eqb w 0) (inTable (s .table .slots) w) (λ _. winner-known);
-        bus-known = both (eqb w w) (inTable (s .table .slots) w) (eq-eqb w w refl) winner-known;
+        bus-known = won-ok (s .table .slots) (s .last) w (s .bus) free (won .formed .bus-known) winner-known;
         value-small = value-now s (won .formed);
         waiters-counted = one-less;
       }
@@ -231,12 +238,12 @@ formed-next s letter number f = go (seen s letter number)
     still : {x : RackState} {n : ℕ} → NoGrant s x n → Formed x
     still (refused i j) = f
     still (full w ok h) = f
-    still (asked c ok t w) = requested-formed s c t w f
-    still (handed c ok t h) = released-formed s c t f
+    still (asked c ok t w v) = requested-formed s c t w f
+    still (handed c ok t h) = released-formed s c f
 
     go : Seen s (eventOf s letter number) → Formed (eventOf s letter number .state)
     go (quiet z g) = still g
-    go (grant z free room st won) = rw st (granted-formed s (eventOf s letter number .winner) room won)
+    go (grant z free room st won) = rw st (granted-formed s (eventOf s letter number .winner) free room won)
 
 -- every event keeps a well-formed state well formed
 pub stays-well-formed : (s : RackState) (letter number : ℕ) → wellFormed s ≡ true → wellFormed (eventOf s letter number .state) ≡ true
@@ -249,7 +256,7 @@ same-form s letter number = go (wellFormed s) refl (seen s letter number)
     unmoved : {x : RackState} {n : ℕ} → wellFormed s ≡ false → NoGrant s x n → wellFormed x ≡ wellFormed s
     unmoved ill (refused i j) = refl
     unmoved ill (full w ok h) = refl
-    unmoved ill (asked c ok t w) = absurd (true≢false (sym ok ∙ ill))
+    unmoved ill (asked c ok t w v) = absurd (true≢false (sym ok ∙ ill))
     unmoved ill (handed c ok t h) = absurd (true≢false (sym ok ∙ ill))
 
     go : (b : Bool) → wellFormed s ≡ b → Seen s (eventOf s letter number) → wellFormed (eventOf s letter number .state) ≡ wellFormed s

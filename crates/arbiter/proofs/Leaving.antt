@@ -9,12 +9,11 @@ use lib.Dec.{eqb}
 use lib.ListN.{set}
 use borrow.Author.Tests.{eqb-false, eq-eqb, ne-eqb, not-true}
 use Rattle.arbiter.proofs.Tests.{and-right}
-use Rattle.arbiter.specs.Arbitrate.{batchNow, inhibitedNow, settlingOf, valueNow, winnerOf, someLoserFull, winnerStopped, countsAfter}
+use Rattle.arbiter.specs.Arbitrate.{batchNow, inhibitedNow, settlingOf, valueNow, winnerOf, someLoserFull, winnerStopped, countsAfter, wonBus, inhibitedBy}
 use Rattle.arbiter.specs.Arbitrate.{granted, grantTo, wonBy, hasWinner, arbitrated}
 use Rattle.arbiter.specs.Events.{answered, answeredBy}
 use Rattle.arbiter.specs.Lent.{stateOf, quietReply, outcomeFrom, Leaves}
 use Rattle.arbiter.specs.declared.Bus.{Bus}
-use Rattle.arbiter.specs.declared.Bus.the-variants.{Held}
 use Rattle.arbiter.specs.declared.Hold.{Hold}
 use Rattle.arbiter.specs.declared.Outcome.{Outcome}
 use Rattle.arbiter.specs.declared.RackState.{RackState}
@@ -82,13 +81,12 @@ module _ (table : Table) (m : Marks) (hold : Hold) (t : Settled) (is : Alike t (
   leaves-settled some left = rw (← same-test, some, ← won, ← whole some) left
 
 -- a grant, by what each part of the state is then
-pub leaves-granted : (s : RackState) (w : ℕ) (t : Settled) (waiting : List Bool) (counts : List ℕ) (batch inhibited : List Bool) (bus : Bus)
-    (waiters value : ℕ)
-    → someLoserFull s w ≡ false → waiting ≡ winnerStopped s w → counts ≡ countsAfter s w → batch ≡ set (batchNow s) w false → inhibited ≡ inhibitedNow s
-    → bus ≡ Held w → waiters ≡ s .waiters - 1 → value ≡ valueNow s
+pub leaves-granted : (s : RackState) (w : ℕ) (t : Settled) (waiting : List Bool) (counts : List ℕ) (batch inhibited : List Bool) (bus : Bus) (waiters : ℕ)
+    → someLoserFull s w ≡ false → waiting ≡ winnerStopped s w → counts ≡ countsAfter s w → batch ≡ set (batchNow s) w false
+    → inhibited ≡ inhibitedBy (s .table .rule) (inhibitedNow s) w → bus ≡ wonBus (s .bus) w → waiters ≡ s .waiters - 1 → t .lines ≡ valueNow s
     → Leaves (wonBy s w t)
     (record {
-      hold = record { last = w; bus = bus; value = value; waiters = waiters };
+      hold = record { last = w; bus = bus; value = t .lines; waiters = waiters };
       answer = 0;
       winner = w;
       lines = t .lines;
@@ -96,5 +94,5 @@ pub leaves-granted : (s : RackState) (w : ℕ) (t : Settled) (waiting : List Boo
     })
     (marks waiting counts batch inhibited)
 unfolding wonBy granted
-leaves-granted s w t waiting counts batch inhibited bus waiters value room p q b i u n v =
+leaves-granted s w t waiting counts batch inhibited bus waiters room p q b i u n v =
     rw (room, p, q, b, i, u, n, v) (record { reply = refl; marks-left = refl })

@@ -2,7 +2,7 @@
 -- It says nothing of the rules, and nothing of a single field of the state. Assumes nothing.
 use Prim.Native.Nat.{ℕ}
 use native.Mathlib.Omega.{arith}
-use mathlib.Core.Bool.{Bool, true, false, cond, not}
+use mathlib.Core.Bool.{Bool, true, false, cond, not, _||_}
 use mathlib.Core.Logic.{_≢_}
 use mathlib.Core.Path.{_≡_, refl}
 use lib.Dec.{eqb}
@@ -12,7 +12,7 @@ use Rattle.arbiter.proofs.Refusals.{may-request, may-release, MayArbitr
 use Rattle.arbiter.proofs.Winner.{Won, won, arbitrated-won}
 use Rattle.arbiter.specs.Arbitrate.{winnerOf, someLoserFull, granted, wonBy, arbitrated, arbitrateRefusal, arbitrateOf, eventOf}
 use Rattle.arbiter.specs.Events.{answered, answeredBy, requested, requestRefusal, requestOf, released, releaseRefusal, releaseOf}
-use Rattle.arbiter.specs.State.{waits, isClosed, isHolder, wellFormed}
+use Rattle.arbiter.specs.State.{waits, isClosed, isHolder, isElected, wellFormed}
 use Rattle.arbiter.specs.declared.Outcome.{Outcome}
 use Rattle.arbiter.specs.declared.RackState.{RackState}
 use Rattle.cards.specs.Table.{inTable}
@@ -21,7 +21,8 @@ use Rattle.cards.specs.Table.{inTable}
 pub data NoGrant (s : RackState) : RackState → ℕ → Type 0 where
   refused : {n : ℕ} → n ≢ 16 → n ≢ 0 → NoGrant s s n
   full : (w : ℕ) → wellFormed s ≡ true → someLoserFull s w ≡ true → NoGrant s s 16
-  asked : (c : ℕ) → wellFormed s ≡ true → inTable (s .table .slots) c ≡ true → waits s c ≡ false → NoGrant s (requested s c) 0
+  asked : (c : ℕ) → wellFormed s ≡ true → inTable (s .table .slots) c ≡ true → waits s c ≡ false → isElected (s .bus) c ≡ false
+      → NoGrant s (requested s c) 0
   handed : (c : ℕ) → wellFormed s ≡ true → inTable (s .table .slots) c ≡ true → isHolder (s .bus) c ≡ true → NoGrant s (released s c) 0
 
 pub data Seen (s : RackState) (o : Outcome) : Type 0 where
@@ -49,8 +50,8 @@ request-seen : (s : RackState) (a : ℕ) → Seen s (requestOf s a)
 unfolding requestRefusal
 request-seen s a =
     by-refusal s (requestRefusal (wellFormed s) s a) (answered (requested s a) 0)
-    (no-16 (not (wellFormed s)) (not (inTable (s .table .slots) a)) (waits s a) 17 11 12 (omega arith) (omega arith) (omega arith))
-    (λ none. let may = may-request (wellFormed s) s a none in quiet refl (asked a (may .told) (may .known) (may .new)))
+    (no-16 (not (wellFormed s)) (not (inTable (s .table .slots) a)) (waits s a || isElected (s .bus) a) 17 11 12 (omega arith) (omega arith) (omega arith))
+    (λ none. let may = may-request (wellFormed s) s a none in quiet refl (asked a (may .told) (may .known) (may .new) (may .unelected)))
 
 release-seen : (s : RackState) (a : ℕ) → Seen s (releaseOf s a)
 unfolding releaseRefusal

@@ -3,7 +3,7 @@
 use Prim.Native.Nat.{ℕ, _^_, _≤_, _<_}
 use native.Mathlib.Nat.{eq-or-lt-of-le}
 use native.Mathlib.Omega.{arith}
-use mathlib.Core.Bool.{Bool, true, false, cond, not}
+use mathlib.Core.Bool.{Bool, true, false, cond, not, _||_}
 use mathlib.Core.Logic.{_≢_, ⊎-elim}
 use mathlib.Core.Path.{_≡_, refl}
 use lib.Dec.{eqb}
@@ -13,7 +13,7 @@ use Rattle.arbiter.proofs.Numbers.{wide, greatest-fits, settles}
 use Rattle.arbiter.proofs.Seen.{Seen, quiet, grant, seen}
 use Rattle.arbiter.specs.Arbitrate.{competing, settlingOf, winnerOf, someLoserFull, grantTo, wonBy, hasWinner, arbitrated, arbitrateRefusal, eventOf}
 use Rattle.arbiter.specs.Events.{answered, answeredBy, requestRefusal, requestOf, releaseRefusal, releaseOf}
-use Rattle.arbiter.specs.State.{waits, isClosed, isHolder, linesOf, wellFormed}
+use Rattle.arbiter.specs.State.{waits, isClosed, isHolder, isElected, linesOf, wellFormed}
 use Rattle.arbiter.specs.declared.Outcome.{Outcome}
 use Rattle.arbiter.specs.declared.RackState.{RackState}
 use Rattle.cards.specs.Table.{inTable}
@@ -58,7 +58,7 @@ module _ (s : RackState) where
   unfolding requestRefusal
   small-request a =
       small-by (requestRefusal (wellFormed s) s a) _
-      (chain (not (wellFormed s)) (not (inTable (s .table .slots) a)) (waits s a) 11 12 (omega arith) (omega arith)) (refused-small _ 0 (omega arith))
+      (chain (not (wellFormed s)) (not (inTable (s .table .slots) a)) (waits s a || isElected (s .bus) a) 11 12 (omega arith) (omega arith)) (refused-small _ 0 (omega arith))
 
   small-release : (a : ℕ) → Small (releaseOf s a)
   unfolding releaseRefusal

@@ -1,18 +1,19 @@
 -- What an arbitration makes of a state, under the five rules, and an event by its letter, as documents 01 and 02 have it. Assumes nothing.
 use Prim.Native.Nat.{ℕ, zero, suc, _+_, _-_, _^_, _%_}
-use mathlib.Core.Bool.{Bool, false, cond, not, _&&_, _||_}
+use mathlib.Core.Bool.{Bool, true, false, cond, not, _&&_, _||_}
 use mathlib.Core.List.{List, [], _∷_, _++_}
 use lib.Dec.{leb, eqb}
 use lib.ListN.{getD, set}
 use Rattle.arbiter.specs.Events.{answered, answeredBy, requestOf, releaseOf}
 use Rattle.arbiter.specs.State.{waits, countOf, inBatch, isInhibited, isClosed, linesOf, wellFormed, withMarks, withSets, withBus, withValue}
-use Rattle.arbiter.specs.declared.Bus.the-variants.{Held}
+use Rattle.arbiter.specs.declared.Bus.{Bus}
+use Rattle.arbiter.specs.declared.Bus.the-variants.{Free, Held, Elected}
 use Rattle.arbiter.specs.declared.Outcome.{Outcome}
 use Rattle.arbiter.specs.declared.RackState.{RackState}
 use Rattle.cards.specs.Below.{anyBelow, tabulate}
 use Rattle.rules.specs.Counts.{fullLoser}
 use Rattle.rules.specs.Marks.{isIn}
-use Rattle.rules.specs.Rules.{numberBy, goesFirst, countsLosers}
+use Rattle.rules.specs.Rules.{numberBy, goesFirst, countsLosers, inhibits}
 use Rattle.rules.specs.Sets.{batchAnew, inhibitedAnew}
 use Rattle.lines.specs.Settle.{refusal, settledOr}
 use Rattle.lines.specs.declared.Settled.{Settled}
@@ -68,7 +69,7 @@ winnerOf s = settlingOf s .lines % 2 ^ s .table .k
 unfoldable pub someLoserFull : RackState → ℕ → Bool
 someLoserFull s w = countsLosers (s .table .rule) && anyBelow 64 (fullLoser (2 ^ s .table .k - 1) (s .waiting) (s .counts) w)
 
--- The winner stops waiting, its count becomes 0, it leaves the batch, it holds the bus and is the last winner. Under rule 2 every loser's count
+-- The winner stops waiting, its count becomes 0, it leaves the batch and is the last winner. Under rule 2 every loser's count
 -- grows by 1: losers are the cards that still wait. The lines keep their settled value, and one card less waits.
 abbrev pub oneMore : List Bool → List ℕ → ℕ → ℕ
 oneMore waiting counts a = cond (isIn waiting a) (getD counts a 0 + 1) (getD counts a 0)
@@ -82,10 +83,21 @@ winnerStopped s w = set (s .waiting) w false
 abbrev pub countsAfter : RackState → ℕ → List ℕ
 countsAfter s w = losersCounted (s .table .rule) (winnerStopped s w) (set (s .counts) w 0)
 
+-- It holds a free bus, or is elected to follow the holder. No arbitration is done where a card is elected already.
+abbrev pub wonBus : Bus → ℕ → Bus
+wonBus Free w = Held w
+wonBus (Held h) w = Elected h w
+wonBus (Elected h e) w = Elected h e
+
+-- under rule 4 it is inhibited
+abbrev pub inhibitedBy : ℕ → List Bool → ℕ → List Bool
+inhibitedBy rule inhibited a = cond (inhibits rule) (set inhibited a true) inhibited
+
 unfoldable pub granted : RackState → ℕ → RackState
 granted s w =
     withValue
-    (withSets (withBus (withMarks s (winnerStopped s w) (countsAfter s w) (s .waiters - 1)) w (Held w)) (set (batchNow s) w false) (inhibitedNow s))
+    (withSets (withBus (withMarks s (winnerStopped s w) (countsAfter s w) (s .waiters - 1)) w (wonBus (s .bus) w)) (set (batchNow s) w false)
+    (inhibitedBy (s .table .rule) (inhibitedNow s) w))
     (valueNow s)
 
 -- the outcome of a grant to w with these settled lines

@@ -65,8 +65,8 @@ pub record Leaves (o : Outcome) (r : Reply) (m : Marks) : Type 0 where
   pub reply : r ≡ replyOf o
   pub marks-left : m ≡ marksOf (o .state)
 
--- A request looks at no width, no rule and no set, an arbitration at no slot, a release at no width, no count and no batch, nor at who waits: so each
--- is as it says whatever those are.
+-- A request looks at no width, no rule and no set, an arbitration at no slot, a release at no width, no rule and no mark: so each is as it says
+-- whatever those are.
 
 pub record Requests (formed : Bool) (slots : List ℕ) (waiting : List Bool) (counts : List ℕ) (hold : Hold) (a : ℕ)
     (r : Reply) (waiting' : List Bool) (counts' : List ℕ) : Type 0 where
@@ -74,11 +74,8 @@ pub record Requests (formed : Bool) (slots : List ℕ) (waiting : List Bool) (co
       → Leaves (requestBy formed (stateOf (tableOf k rule slots) (marks waiting counts batch inhibited) hold) a) r
       (marks waiting' counts' batch inhibited)
 
-pub record Releases (formed : Bool) (rule : ℕ) (slots : List ℕ) (inhibited : List Bool) (hold : Hold) (a : ℕ)
-    (r : Reply) (inhibited' : List Bool) : Type 0 where
-  pub left : (k : ℕ) (waiting : List Bool) (counts : List ℕ) (batch : List Bool)
-      → Leaves (releaseBy formed (stateOf (tableOf k rule slots) (marks waiting counts batch inhibited) hold) a) r
-      (marks waiting counts batch inhibited')
+pub record Releases (formed : Bool) (slots : List ℕ) (hold : Hold) (a : ℕ) (r : Reply) : Type 0 where
+  pub left : (k rule : ℕ) (m : Marks) → Leaves (releaseBy formed (stateOf (tableOf k rule slots) m hold) a) r m
 
 pub record Arbitrates (formed : Bool) (k rule : ℕ) (m : Marks) (hold : Hold) (r : Reply) (m' : Marks) : Type 0 where
   pub left : (slots : List ℕ) → Leaves (arbitrateBy formed (stateOf (tableOf k rule slots) m hold)) r m'

@@ -27,11 +27,11 @@ unfoldable pub after : RackState → List Event → RackState
 after s [] = s
 after s (e ∷ es) = after (next s e) es
 
--- the event is a grant: it reports a winner
+-- the event is a grant or an election, which counts as one: it reports a winner
 abbrev pub isGrant : RackState → Event → Bool
 isGrant s e = ltb 0 (winner s e)
 
--- the winners of the grants among the events, in their order
+-- the winners of the grants among the events, elections with them, in their order
 unfoldable pub grants : RackState → List Event → List ℕ
 grants s [] = []
 grants s (e ∷ es) = cond (isGrant s e) (winner s e ∷ []) [] ++ grants (next s e) es

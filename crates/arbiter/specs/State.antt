@@ -5,7 +5,7 @@ use mathlib.Core.List.{List}
 use lib.Dec.{ltb, eqb}
 use lib.ListN.{length, getD, replicate}
 use Rattle.arbiter.specs.declared.Bus.{Bus}
-use Rattle.arbiter.specs.declared.Bus.the-variants.{Free, Held}
+use Rattle.arbiter.specs.declared.Bus.the-variants.{Free, Held, Elected}
 use Rattle.arbiter.specs.declared.RackState.{RackState}
 use Rattle.cards.specs.Below.{allBelow, countBelow}
 use Rattle.cards.specs.Table.{hasCard, inTable, tableGood}
@@ -33,20 +33,29 @@ isInhibited s a = isIn (s .inhibited) a
 abbrev pub isCard : RackState → ℕ → Bool
 isCard s a = hasCard (s .table .slots) a
 
--- closed to arbitration: some card holds it
+-- closed to arbitration: a card is elected already
 abbrev pub isClosed : Bus → Bool
 isClosed Free = false
-isClosed (Held h) = true
+isClosed (Held h) = false
+isClosed (Elected h e) = true
 
 -- held by the card a
 abbrev pub isHolder : Bus → ℕ → Bool
 isHolder Free a = false
 isHolder (Held h) a = eqb h a
+isHolder (Elected h e) a = eqb h a
 
--- the holder, if any, is a card of the table and the last winner
+-- the card a is elected to follow the holder
+abbrev pub isElected : Bus → ℕ → Bool
+isElected Free a = false
+isElected (Held h) a = false
+isElected (Elected h e) a = eqb e a
+
+-- the holder and the elected card, if any, are cards of the table; the elected card, or else the holder, is the last winner
 abbrev pub holderOk : List ℕ → ℕ → Bus → Bool
 holderOk slots last Free = true
 holderOk slots last (Held h) = eqb h last && inTable slots h
+holderOk slots last (Elected h e) = inTable slots h && (eqb e last && inTable slots e)
 
 -- the marks that the number a may have: only a card waits; a count is below 2 ^ k, and 0 but for a waiting card under rule 2
 unfoldable pub markFits : Table → ℕ → Bool → ℕ → Bool

@@ -7,10 +7,11 @@ ghost use Rattle.arbiter.specs.Arbitrate.{arbitrated, somePreferred, val
 ghost use Rattle.arbiter.specs.Lent.{stateOf, tableOf, Leaves};
 ghost use Rattle.arbiter.specs.declared.RackState.{RackState};
 ghost use Rattle.rules.specs.Marks.{marks};
-use super::Bus;
 use super::Hold;
 use super::Reply;
 use super::answers::quiet;
+use super::marks::won_bus;
+use super::sets::inhibit;
 use contest::settling_of;
 use contest::some_first;
 use lines::Settled;
@@ -20,7 +21,7 @@ use rules::renew_batch;
 use rules::some_loser_full;
 use rules::span;
 
-// The outcome where w wins with these settled lines, on the lent marks: refusal 16, or the grant.
+// The outcome where w wins with these settled lines, on the lent marks: refusal 16, or the grant, which on a held bus is an election.
 pub(crate) fn granted_in(
     k: u8,
     rule: u8,
@@ -50,11 +51,14 @@ pub(crate) fn granted_in(
     waiting[i] = false;
     counts[i] = 0;
     batch[i] = false;
+    inhibit(rule, inhibited, w);
+    let before = hold.bus;
+    let bus = won_bus(before, w);
     grow_counts(rule, waiting, counts);
     Reply {
         hold: Hold {
             last: w,
-            bus: Bus::Held(w),
+            bus,
             value: t.lines,
             waiters,
         },

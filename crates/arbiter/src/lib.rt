@@ -8,23 +8,25 @@ use answers::first_of;
 use answers::quiet;
 use arbitration::arbitrated_in;
 use cards::Table;
+use marks::handed_on;
 use marks::is_closed;
+use marks::is_elected;
 use marks::is_holder;
 use marks::waits_at;
 use rules::is_robin;
 use rules::look_round;
 use rules::one_waits;
-use sets::inhibit;
 
 mod answers;
 mod arbitration;
 mod marks;
 mod sets;
 
-// The bus is free, or held by the card of that number.
+// The bus is free, held by the card of that number, or held by the first with the second elected to follow.
 pub enum Bus {
     Free,
     Held(u8),
+    Elected(u8, u8),
 }
 
 // The state: the table, who waits, the waiting counts, the batch (rule 3), who is inhibited (rule 4), the last winner (0 for none yet), the bus,
@@ -41,8 +43,8 @@ pub struct RackState {
     pub value: u16,
 }
 
-// The last winner, the bus, the number of waiting cards and the kept value: what is left of a state beside its table and its marks. In this order it
-// has no gap, and a run, which copies it at every line, takes some 15 instructions a line less.
+// The last winner, the bus, the number of waiting cards and the kept value: what is left of a state beside its table and its marks. A run copies it at
+// every line.
 pub struct Hold {
     pub last: u8,
     pub bus: Bus,
@@ -99,7 +101,7 @@ pub fn state_of(
     }
 }
 
-// A card begins to wait, with count 0: 17, 11 and 12, or 0.
+// A card begins to wait, with count 0: 17, 11 and 12, or 0. The elected card cannot request before the bus is its own.
 pub fn request_in(
     formed: bool,
     slots: &[u8; 64],
@@ -113,7 +115,13 @@ pub fn request_in(
 {
     let known = cards::in_table(slots, a);
     let waits = waits_at(waiting, a);
-    let refusal = first_of(!formed, 17, first_of(!known, 11, first_of(waits, 12, 0)));
+    let bus = hold.bus;
+    let elected = is_elected(bus, a);
+    let refusal = first_of(
+        !formed,
+        17,
+        first_of(!known, 11, first_of(waits | elected, 12, 0)),
+    );
     if refusal != 0 {
         return quiet(hold, refusal);
     }
@@ -121,7 +129,6 @@ pub fn request_in(
     waiting[i] = true;
     counts[i] = 0;
     let last = hold.last;
-    let bus = hold.bus;
     let value = hold.value;
     let waiters = one_waits(hold.waiters);
     quiet(
@@ -135,16 +142,9 @@ pub fn request_in(
     )
 }
 
-// The holder lets the bus go, and the last winner stays; under rule 4 the holder is inhibited: 17, 11 and 15, or 0.
-pub fn release_in(
-    formed: bool,
-    rule: u8,
-    slots: &[u8; 64],
-    inhibited: &mut [bool; 64],
-    hold: Hold,
-    a: u8,
-) -> Reply
-    ensures { λ r. ⌜ Releases formed rule (now (slots .entry)) (now (inhibited .entry)) hold a r (now (inhibited .exit)) ⌝ }
+// The holder lets the bus go, to the elected card if there is one, and the last winner stays: 17, 11 and 15, or 0.
+pub fn release_in(formed: bool, slots: &[u8; 64], hold: Hold, a: u8) -> Reply
+    ensures { λ r. ⌜ Releases formed (now (slots .entry)) hold a r ⌝ }
 {
     let bus = hold.bus;
     let known = cards::in_table(slots, a);
@@ -153,11 +153,11 @@ pub fn release_in(
     if refusal != 0 {
         return quiet(hold, refusal);
     }
-    inhibit(rule, inhibited, a);
+    let next = handed_on(bus);
     quiet(
         Hold {
             last: hold.last,
-            bus: Bus::Free,
+            bus: next,
             value: hold.value,
             waiters: hold.waiters,
         },
@@ -165,7 +165,8 @@ pub fn release_in(
     )
 }
 
-// The competing cards settle, from the value that the lines keep, and the winner holds the bus: 17, 13, 14 and 16, or 0.
+// The competing cards settle, from the value that the lines keep, and the winner holds a free bus, or is elected to follow the holder: 17, 13, 14 and
+// 16, or 0.
 pub fn arbitrate_in(
     formed: bool,
     k: u8,

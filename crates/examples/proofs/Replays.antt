@@ -22,6 +22,7 @@ use Rattle.lines.specs.Settling as settling
 use Rattle.promises.proofs.Share.{waits-at-grants}
 use Rattle.promises.specs.Fairness.{AtMost, AtMostOthers, FairShare, Within, AtMostLower, OthersWithin, ShareBut, ShareOf}
 use Rattle.examples.specs.KnownRules.{Ruled, ruled, threeCards, settlingIn, played, all-ask, six-again, five-done, knownRules}
+use Rattle.examples.specs.LateInhibition.{lateInhibited, lateNext, lateAfter, lateGrants, LateWaits}
 use Rattle.examples.specs.Listing.{line, Q, A, R, replayed, file, listing}
 use Rattle.promises.specs.Runs.{Event, outcomeOf, after, grants, times, timesOthers, cardsOf, WaitsThrough, WaitsAtGrants}
 use Rattle.rack.specs.Files.{loadOf}
@@ -246,6 +247,25 @@ lower-reached = (
   λ claim. omega (arith, claim (two-cards 3) refl six-asks-again (R 6 ∷ A ∷ []) 6 2 (omega arith) (refl, (refl, tt))),
   λ claim. omega (arith, claim (two-cards 4) refl six-asks-again (R 6 ∷ A ∷ []) 6 2 (omega arith) (refl, (refl, tt))),
 )
+
+-- ---- the fault of document 000: with early election and the inhibition at release, the card 6 is chosen four times while the card 2 waits. 6 is
+-- elected while it holds, and so before its release inhibits it.
+
+pub two-behind : List Event
+two-behind = Q 2 ∷ A ∷ Q 2 ∷ Q 6 ∷ R 2 ∷ []
+
+pub six-four-times : List Event
+six-four-times = A ∷ Q 6 ∷ A ∷ R 6 ∷ Q 6 ∷ R 6 ∷ A ∷ Q 6 ∷ A ∷ []
+
+pub late-inhibition-unfair : (lateGrants (lateAfter (freshOf (two-cards 4)) two-behind) six-four-times ≡ 6 ∷ 6 ∷ 6 ∷ 6 ∷ [])
+    × LateWaits 2 (lateAfter (freshOf (two-cards 4)) two-behind) six-four-times
+unfolding machine lateInhibited lateNext lateAfter lateGrants LateWaits two-cards two-behind six-four-times
+late-inhibition-unfair = (refl, (refl, (refl, (refl, (refl, (refl, (refl, (refl, (refl, (refl, tt))))))))))
+
+-- the same events as they are: the card 2 is granted after two grants to the card 6
+pub early-inhibition-fair : grants (after (freshOf (two-cards 4)) two-behind) six-four-times ≡ 6 ∷ 6 ∷ 2 ∷ 6 ∷ []
+unfolding machine two-cards two-behind six-four-times
+early-inhibition-fair = refl
 
 -- ---- the bound on waiting counts is reached: at P10 the card 2 of the three has seen both others granted, and no smaller bound will do
 

@@ -1,3 +1,4 @@
 pub mod Listing
 pub mod KnownRules
 pub mod Report
+pub mod LateInhibition

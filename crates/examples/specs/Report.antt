@@ -12,10 +12,10 @@ unfoldable pub events : List Event
 unfolding listing
 events = map (λ (l : Line). l .event) listing
 
--- those that were done, the latest first
+-- those that were done, the latest first; an election is a grant
 unfoldable pub past : History
 past =
-    released 6 ∷ granted 6 ∷ released 2 ∷ granted 2 ∷ released 5 ∷ granted 5 ∷ released 6
+    released 6 ∷ released 2 ∷ granted 6 ∷ released 5 ∷ granted 2 ∷ released 6 ∷ granted 5
     ∷ asked 6 ∷ granted 6 ∷ asked 6 ∷ asked 5 ∷ asked 2 ∷ []
 
 -- a card's number, its line of the report, and how many grants to each of the cards 2, 5 and 6 left it waiting

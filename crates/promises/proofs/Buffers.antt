@@ -209,9 +209,7 @@ no-refusal-writes = record {
   request-in = λ κ a r b p refused.
       let kept = marks-kept _ _ r _ (kept-by _ _ _ (λ some. absurd (some refl))) (p .left 0 0 [] []) refused in
       λ i. atExit arbiter.«request_in».ended κ a (tt, (tt, (kept i .waiting, (kept i .counts, (tt, (tt, tt))))));
-  release-in = λ κ a r b p refused.
-      let kept = marks-kept _ _ r _ (kept-by _ _ _ (λ some. absurd (some refl))) (p .left 0 [] [] []) refused in
-      λ i. atExit arbiter.«release_in».ended κ a (tt, (tt, (tt, (kept i .inhibited, (tt, (tt, tt))))));
+  release-in = λ κ a r b p refused. refl;
   arbitrate-in = λ κ a r b p refused.
       let kept = marks-kept _ _ r _ (kept-by _ _ _ (arbitrated-kept _)) (p .left []) refused in
       λ i. atExit arbiter.«arbitrate_in».ended κ a

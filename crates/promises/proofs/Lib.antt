@@ -10,6 +10,7 @@ pub mod Topped
 pub mod Fairness
 pub mod Listing
 pub mod States
+pub mod Elections
 pub mod Next
 pub mod OthersLeft
 pub mod Counts

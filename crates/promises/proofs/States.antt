@@ -67,7 +67,7 @@ count-kept s e right = go (wellFormed s) refl (seen s (e .letter) (e .number))
     unmoved : {x : RackState} {n : ℕ} → wellFormed s ≡ false → NoGrant s x n → x .waiters ≡ recount (x .waiting)
     unmoved ill (refused i j) = right
     unmoved ill (full w ok h) = right
-    unmoved ill (asked c ok t w) = absurd (true≢false (sym ok ∙ ill))
+    unmoved ill (asked c ok t w v) = absurd (true≢false (sym ok ∙ ill))
     unmoved ill (handed c ok t h) = absurd (true≢false (sym ok ∙ ill))
 
     go : (b : Bool) → wellFormed s ≡ b → Seen s (outcomeOf s e) → next s e .waiters ≡ recount (next s e .waiting)

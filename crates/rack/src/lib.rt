@@ -110,22 +110,22 @@ pub fn request(s: RackState, a: u8) -> Outcome
     outcome_of(table, waiting, counts, batch, inhibited, r)
 }
 
-// The holder lets the bus go. The last winner stays. Under rule 4 the holder is inhibited.
+// The holder lets the bus go, to the elected card if there is one. The last winner stays.
 pub fn release(s: RackState, a: u8) -> Outcome
     ensures { λ r. ⌜ r ≡ releaseOf s a ⌝ }
 {
     let table = s.table;
     let slots = table.slots;
-    let mut inhibited = s.inhibited;
     let hold = hold_of(s);
-    let r = release_in(well_formed(s), table.rule, &slots, &mut inhibited, hold, a);
+    let r = release_in(well_formed(s), &slots, hold, a);
     let waiting = s.waiting;
     let counts = s.counts;
     let batch = s.batch;
+    let inhibited = s.inhibited;
     outcome_of(table, waiting, counts, batch, inhibited, r)
 }
 
-// The competing cards settle, and the winner holds the bus.
+// The competing cards settle, and the winner holds a free bus, or is elected to follow the holder.
 pub fn arbitrate(s: RackState) -> Outcome
     ensures { λ r. ⌜ r ≡ arbitrateOf s ⌝ }
 {

@@ -24,7 +24,9 @@ const HELD: usize = LAST + 1;
 
 const HOLDER: usize = HELD + 1;
 
-const VALUE: usize = HOLDER + 1;
+const ELECTED: usize = HOLDER + 1;
+
+const VALUE: usize = ELECTED + 1;
 
 const WAITERS: usize = VALUE + 2;
 
@@ -39,7 +41,7 @@ const ANSWER: usize = AFTER + 5;
 
 // The 64 bytes of a record from at on.
 fn numbers_at(bytes: &[u8; RECORD], at: usize) -> [u8; 64]
-    requires { ⌜ at + 64 ≤ 328 ⌝ }
+    requires { ⌜ at + 64 ≤ 329 ⌝ }
 {
     let mut numbers = [0u8; 64];
     for a in 0..64usize {
@@ -50,7 +52,7 @@ fn numbers_at(bytes: &[u8; RECORD], at: usize) -> [u8; 64]
 
 // The same as marks: 0 for no, anything else for yes.
 fn marks_at(bytes: &[u8; RECORD], at: usize) -> [bool; 64]
-    requires { ⌜ at + 64 ≤ 328 ⌝ }
+    requires { ⌜ at + 64 ≤ 329 ⌝ }
 {
     let mut marks = [false; 64];
     for a in 0..64usize {
@@ -59,12 +61,13 @@ fn marks_at(bytes: &[u8; RECORD], at: usize) -> [bool; 64]
     marks
 }
 
-// The bus as a record tells it.
-fn bus_from(held: u8, holder: u8) -> Bus {
-    if held == 0 {
-        return Bus::Free;
+// The bus as a record tells it: free, held, or held with a card elected.
+fn bus_from(held: u8, holder: u8, elected: u8) -> Bus {
+    match held {
+        0 => Bus::Free,
+        1 => Bus::Held(holder),
+        _ => Bus::Elected(holder, elected),
     }
-    Bus::Held(holder)
 }
 
 // A number of two bytes.
@@ -79,7 +82,7 @@ pub(crate) fn state_from(bytes: &[u8; RECORD]) -> RackState {
     let counts = numbers_at(bytes, COUNTS);
     let batch = marks_at(bytes, BATCH);
     let inhibited = marks_at(bytes, INHIBITED);
-    let bus = bus_from(bytes[HELD], bytes[HOLDER]);
+    let bus = bus_from(bytes[HELD], bytes[HOLDER], bytes[ELECTED]);
     RackState {
         table: Table {
             k: bytes[K],
@@ -99,7 +102,7 @@ pub(crate) fn state_from(bytes: &[u8; RECORD]) -> RackState {
 
 // Puts 64 numbers into an answer from at on.
 fn put_numbers(out: &mut [u8; ANSWER], at: usize, numbers: [u8; 64])
-    requires { ⌜ at + 64 ≤ 328 ⌝ }
+    requires { ⌜ at + 64 ≤ 329 ⌝ }
 {
     for a in 0..64usize {
         out[at + a] = numbers[a];
@@ -108,18 +111,28 @@ fn put_numbers(out: &mut [u8; ANSWER], at: usize, numbers: [u8; 64])
 
 // The same for marks: 1 for yes, 0 for no.
 fn put_marks(out: &mut [u8; ANSWER], at: usize, marks: [bool; 64])
-    requires { ⌜ at + 64 ≤ 328 ⌝ }
+    requires { ⌜ at + 64 ≤ 329 ⌝ }
 {
     for a in 0..64usize {
         out[at + a] = marks[a] as u8;
     }
 }
 
-// 1 if the bus is held.
-fn is_held(bus: Bus) -> u8 {
+// 0 if the bus is free, 1 if it is held, 2 if a card is elected too.
+fn bus_kind(bus: Bus) -> u8 {
     match bus {
         Bus::Free => 0,
         Bus::Held(_) => 1,
+        Bus::Elected(_, _) => 2,
+    }
+}
+
+// The elected card, 0 if there is none.
+fn elected_of(bus: Bus) -> u8 {
+    match bus {
+        Bus::Free => 0,
+        Bus::Held(_) => 0,
+        Bus::Elected(_, elected) => elected,
     }
 }
 
@@ -128,6 +141,7 @@ fn holder_of(bus: Bus) -> u8 {
     match bus {
         Bus::Free => 0,
         Bus::Held(holder) => holder,
+        Bus::Elected(holder, _) => holder,
     }
 }
 
@@ -149,8 +163,9 @@ pub(crate) fn bytes_of(s: RackState) -> [u8; ANSWER] {
     put_marks(&mut out, BATCH, batch);
     put_marks(&mut out, INHIBITED, inhibited);
     out[LAST] = s.last;
-    out[HELD] = is_held(bus);
+    out[HELD] = bus_kind(bus);
     out[HOLDER] = holder_of(bus);
+    out[ELECTED] = elected_of(bus);
     out[VALUE] = low_byte(s.value as usize);
     out[VALUE + 1] = high_byte(s.value as usize);
     out[WAITERS] = s.waiters;

@@ -1,6 +1,6 @@
 // Takes states of a rack as bytes, each with an event, a save or a question, and writes what the rack makes of each.
 //
-// A record in has 330 bytes. Its first 328 are a state:
+// A record in has 331 bytes. Its first 329 are a state:
 //   0    number width k
 //   1    rule
 //   2    the slot of each number, 64 bytes
@@ -9,34 +9,36 @@
 //   194  whether each number is in the batch, 64 bytes, as for waiting
 //   258  whether each number is inhibited, 64 bytes, as for waiting
 //   322  last winner
-//   323  whether the bus is held: 0 for no, anything else for yes
+//   323  the bus: 0 free, 1 held, anything else held with a card elected to follow
 //   324  the holder
-//   325  the kept value of the lines, low byte first, 2 bytes
-//   327  the stored number of waiting cards
+//   325  the elected card
+//   326  the kept value of the lines, low byte first, 2 bytes
+//   328  the stored number of waiting cards
 // Then what to do with it:
-//   328  the letter: Q, A or R for an event, S for a save, N for how many cards wait, W for who is next; any other letter is an event too, and is refused
+//   329  the letter: Q, A or R for an event, S for a save, N for how many cards wait, W for who is next; any other letter is an event too, and is refused
 //        with 18
-//   329  the number of the event, or how many bytes are lent to the save; each of them holds EE before (in hex)
+//   330  the number of the event, or how many bytes are lent to the save; each of them holds EE before (in hex)
 //
-// A record out has 333 bytes, and after a save those that were lent. Its first 328 are the state that the event returns, or the state that was
-// saved or asked, laid out as above: yes is 1, and the holder of a free bus is 0. Then, for an event:
-//   328  answer
-//   329  winner
-//   330  settled lines, low byte first, 2 bytes
-//   332  stages
+// A record out has 334 bytes, and after a save those that were lent. Its first 329 are the state that the event returns, or the state that was
+// saved or asked, laid out as above: yes is 1, a bus with a card elected is 2, the holder of a free bus is 0, and so is the elected card where there is
+// none. Then, for an event:
+//   329  answer
+//   330  winner
+//   331  settled lines, low byte first, 2 bytes
+//   333  stages
 // for a save:
-//   328  answer
-//   329  length, low byte first, 2 bytes
-//   331  zeros, 2 bytes
-//   333  the bytes that were lent, as the save left them
+//   329  answer
+//   330  length, low byte first, 2 bytes
+//   332  zeros, 2 bytes
+//   334  the bytes that were lent, as the save left them
 // for how many cards wait:
-//   328  answer
-//   329  how many
-//   330  zeros, 3 bytes
+//   329  answer
+//   330  how many
+//   331  zeros, 3 bytes
 // and for who is next:
-//   328  answer
-//   329  the card that would win
-//   330  zeros, 3 bytes
+//   329  answer
+//   330  the card that would win
+//   331  zeros, 3 bytes
 //
 // Each record is answered before the next is read. The program ends where the input ends or a record is short.
 use arbiter::RackState;

@@ -41,7 +41,7 @@ unfoldable pub goesFirst : ℕ → Bool → Bool → Bool
 goesFirst rule batched inhibited = byRule rule true true true batched (not inhibited) true
 
 -- Rule 1 alone is round-robin, under rule 2 alone a loser's waiting count grows, under rule 3 alone there is a batch, and under rule 4 alone a card is
--- inhibited when it releases.
+-- inhibited when it wins.
 abbrev pub isRobin : ℕ → Bool
 isRobin rule = eqb rule 1
 

@@ -87,7 +87,7 @@ pub fn has_batch(rule: u8) -> bool
     }
 }
 
-// Whether a card is inhibited when it releases.
+// Whether a card is inhibited when it wins.
 pub fn inhibits(rule: u8) -> bool
     ensures { λ r. ⌜ r ≡ inhibits rule ⌝ }
 {

@@ -45,7 +45,7 @@ pub(crate) fn answer_line(
     match line {
         Line::Request(n) => request_in(formed, slots, waiting, counts, hold, n),
         Line::Arbitrate => arbitrate_in(formed, k, rule, waiting, counts, batch, inhibited, hold),
-        Line::Release(n) => release_in(formed, rule, slots, inhibited, hold, n),
+        Line::Release(n) => release_in(formed, slots, hold, n),
         Line::Malformed => malformed(hold),
     }
 }

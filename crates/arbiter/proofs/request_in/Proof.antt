@@ -1,6 +1,6 @@
 -- `arbiter::request_in` meets its contract: by the refusal, whose nest is the definition's. Assumes nothing.
 use Prim.Native.Nat.{ℕ, _<_}
-use mathlib.Core.Bool.{Bool, true, not}
+use mathlib.Core.Bool.{Bool, true, not, _||_}
 use mathlib.Core.List.{List, []}
 use mathlib.Core.Path.{_≡_, sym, ap, _∙_}
 use lib.ListN.{set}
@@ -11,6 +11,7 @@ use Rattle.arbiter.proofs.request_in.Statement.{statement}
 use Rattle.arbiter.proofs.request_in.Tie as tie
 use Rattle.arbiter.specs.Events.{requestRefusal}
 use Rattle.arbiter.specs.Lent.{stateOf, tableOf}
+use Rattle.arbiter.specs.State.{isElected}
 use Rattle.arbiter.specs.declared.Hold.{Hold}
 use Rattle.arbiter.specs.declared.RackState.{RackState}
 use Rattle.cards.proofs.TableKnown.{table-range}
@@ -30,7 +31,7 @@ quiet-requires c κs = search needs
 -- the nest is the definition's, whatever the width, the rule and the sets are
 module _ (c : tie.After-first-of3) (k rule : ℕ) (batch inhibited : List Bool) where
   abbrev given : tie.Start
-  given = c .before .before .before .before .before .before
+  given = c .before .before .before .before .before .before .before
 
   abbrev table : Table
   table = tableOf k rule (given .args .slots .now)
@@ -41,11 +42,13 @@ module _ (c : tie.After-first-of3) (k rule : ℕ) (batch inhibited : List Bool) 
   told : c .first-of3 .result ≡ requestRefusal (given .args .formed) state (given .args .a)
   unfolding requestRefusal
   told =
-      let known = c .before .before .before .before .before .in-table in
-      let waits = c .before .before .before .waits-at in
-      worked-out (given .args .formed) (not (known .result)) (waits .result) 11 12
-      (c .before .before .first-of .ensures) (c .before .first-of2 .ensures) (c .first-of3 .ensures) (ap not (known .ensures)) (waits .ensures)
-      ∙ asks-in-range (given .args .formed) (given .args .slots .now) (given .args .waiting .now) (given .args .a)
+      let known = c .before .before .before .before .before .before .in-table in
+      let waits = c .before .before .before .before .waits-at in
+      let elected = c .before .before .before .is-elected in
+      worked-out (given .args .formed) (not (known .result)) (waits .result || elected .result) 11 12
+      (c .before .before .first-of .ensures) (c .before .first-of2 .ensures) (c .first-of3 .ensures) (ap not (known .ensures))
+      (λ i. waits .ensures i || elected .ensures i)
+      ∙ asks-in-range (given .args .formed) (given .args .slots .now) (given .args .waiting .now) (given .args .a) (isElected (given .args .hold .bus) (given .args .a))
 
   below : c .first-of3 .result ≡ 0 → given .args .a < 64
   below none = table-range _ _ (may-request (given .args .formed) state (given .args .a) (sym told ∙ none) .known)
@@ -90,6 +93,7 @@ request-in-spec =
     (tie.spec
     in-table-requires
     waits-at-requires
+    (λ c κs. search needs)
     (λ c κs. search needs)
     (λ c κs. search needs)
     (λ c κs. search needs)

@@ -6,7 +6,7 @@ use Rattle.rackstate.proofs.main.Statement.{statement}
 use Rattle.rackstate.proofs.main.Tie as tie
 
 abbrev Inv-loop : tie.InvT-loop
-Inv-loop bytes₀ more₀ turns₀ bytes more turns = length bytes ≡ 330
+Inv-loop bytes₀ more₀ turns₀ bytes more turns = length bytes ≡ 331
 
 abbrev μ-loop : tie.MeasureT-loop
 μ-loop bytes₀ more₀ turns₀ bytes more turns = turns

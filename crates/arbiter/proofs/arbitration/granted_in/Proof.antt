@@ -9,7 +9,7 @@ use Rattle.arbiter.proofs.Laws.{counts-grown}
 use Rattle.arbiter.proofs.Leaving.{leaves-answered, leaves-granted}
 use Rattle.arbiter.proofs.arbitration.granted_in.Statement.{statement}
 use Rattle.arbiter.proofs.arbitration.granted_in.Tie as tie
-use Rattle.arbiter.specs.Arbitrate.{somePreferred, batchNow, inhibitedNow, someLoserFull, countsAfter, wonBy}
+use Rattle.arbiter.specs.Arbitrate.{somePreferred, batchNow, inhibitedNow, someLoserFull, inhibitedBy, wonBy}
 use Rattle.arbiter.specs.Lent.{stateOf, tableOf}
 use Rattle.arbiter.specs.declared.RackState.{RackState}
 use Rattle.rules.proofs.Laws.{span-of}
@@ -37,8 +37,8 @@ returns c slots s is anew value =
     let tested = c .before .before in
     rw (is, c .quiet .ensures, full tested slots ∙ c .before .if1 .taken) (leaves-answered (state tested slots .table) (lent tested slots) _ 16)
 
--- no loser's count is full: the marks after the grant, whatever the slots are
-module _ (c : tie.After-grow-counts) (slots : List ℕ) where
+-- no loser's count is full, and the sets and the bus are those of the arbitration, whatever the slots are
+module _ (c : tie.After-won-bus) (slots : List ℕ) where
   abbrev cleared : tie.After-clear-inhibitions
   cleared = c .before .before .before .before
 
@@ -57,26 +57,28 @@ module _ (c : tie.After-grow-counts) (slots : List ℕ) where
   room : someLoserFull at winner ≡ false
   room = full tested slots ∙ renewed .before .before .before .if1 .left
 
-  grown : c .grow-counts .last .1 .1 .0 ≡ countsAfter at winner
-  grown = c .grow-counts .ensures ∙ counts-grown at winner room (given tested slots .pre .1 .0)
-
   module _ (anew : given tested slots .args .anew ≡ not (somePreferred at)) where
     batched : set (renewed .renew-batch .last .1 .1 .1 .0) winner false ≡ set (batchNow at) winner false
     unfolding batchNow
     batched =
-        ap (λ (batch : List Bool). set batch winner false)
+        ap (λ (l : List Bool). set l winner false)
         (renewed .renew-batch .ensures ∙ ap (λ (b : Bool). batchAnew (at .table .rule) b (at .waiting) (at .batch)) anew)
 
-    barred : cleared .clear-inhibitions .last .1 .1 .0 ≡ inhibitedNow at
+    barred : c .before .inhibit .last .1 .0 ≡ inhibitedBy (at .table .rule) (inhibitedNow at) winner
     unfolding inhibitedNow
-    barred = cleared .clear-inhibitions .ensures ∙ ap (λ (b : Bool). inhibitedAnew (at .table .rule) b (at .inhibited)) anew
+    barred =
+        c .before .inhibit .ensures
+        ∙ ap (λ (l : List Bool). inhibitedBy (at .table .rule) l winner)
+        (cleared .clear-inhibitions .ensures ∙ ap (λ (b : Bool). inhibitedAnew (at .table .rule) b (at .inhibited)) anew)
 
 returns-2 : tie.Need-returns-2
 returns-2 c slots s is anew value =
-    let then = rw is at anew in
+    let won = c .before .before .before in
+    let at-anew = rw is at anew in
+    let counted = c .grow-counts .ensures ∙ counts-grown (at won slots) (winner won slots) (room won slots) (given (tested won slots) slots .pre .1 .0) in
     rw is
-    (leaves-granted (at c slots) (winner c slots) _ _ _ _ _ _ _ _ (room c slots) refl (grown c slots) (batched c slots then) (barred c slots then) refl refl
-    (rw is at value))
+    (leaves-granted (at won slots) (winner won slots) _ _ _ _ _ _ _ (room won slots) refl counted (batched won slots at-anew) (barred won slots at-anew)
+    (won .won-bus .ensures) refl (rw is at value))
 
 pub granted-in-spec : {M : Type 1} → statement M
 granted-in-spec =
@@ -91,5 +93,7 @@ granted-in-spec =
     (λ c. search needs)
     (λ c. search needs)
     (λ c. search needs)
+    (λ c κs. search needs)
+    (λ c κs. search needs)
     (λ c κs. search needs)
     returns-2)

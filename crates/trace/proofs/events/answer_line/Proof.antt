@@ -33,10 +33,11 @@ returns-2 c =
 returns-3 : tie.Need-returns-3
 unfolding lineOutcome
 returns-3 c =
-    let read = c .before .before .before in
+    let read = c .before .before in
     let given = read .before .before in
     rw (read .line2 .given .1, ← given .pre)
-    (c .release-in .ensures .left (given .args .k) (given .args .waiting .now) (given .args .counts .now) (given .args .batch .now))
+    (c .release-in .ensures .left (given .args .k) (given .args .rule)
+    (marks (given .args .waiting .now) (given .args .counts .now) (given .args .batch .now) (given .args .inhibited .now)))
 
 returns-4 : tie.Need-returns-4
 unfolding lineOutcome
