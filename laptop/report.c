@@ -3,6 +3,7 @@
 #include "bus.h"
 #include "during.h"
 #include "promise.h"
+#include "times.h"
 #include "waits.h"
 
 static void print_heading(const struct inquiry *inquiry)
