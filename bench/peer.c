@@ -123,13 +123,14 @@ static struct outcome release(unsigned a)
     return (struct outcome){0};
 }
 
-static void put2(uint8_t *out, unsigned x)
+/* A row is made where its event is answered, so that what is 0 there is written as such: by itself gcc stops doing so at 22 bytes. */
+static inline __attribute__((always_inline)) void put2(uint8_t *out, unsigned x)
 {
     out[0] = (uint8_t)('0' + x / 10 % 10);
     out[1] = (uint8_t)('0' + x % 10);
 }
 
-static void put_row(uint8_t *out, const uint8_t *event, struct outcome o)
+static inline __attribute__((always_inline)) void put_row(uint8_t *out, const uint8_t *event, struct outcome o)
 {
     memcpy(out, event, 4);
     out[4] = out[7] = out[10] = out[15] = out[18] = ' ';
