@@ -5,7 +5,7 @@
 #include <string.h>
 #include <unistd.h>
 
-enum { CARDS = 64, CHUNK = 1 << 16, LINE = 5, ROW = 19 };
+enum { CARDS = 64, CHUNK = 1 << 16, LINE = 5, ROW = 22 };
 
 static uint8_t slots[CARDS], waiting[CARDS], counts[CARDS];
 static unsigned k, rule, last, waiters;
@@ -13,8 +13,13 @@ static unsigned holder, elected; /* 0 where the bus is free, and where no card i
 static uint16_t kept; /* what the lines settled to last; the next settling starts from it */
 
 struct outcome {
-    unsigned answer, winner, lines, stages;
+    unsigned answer, winner, lines, stages, matches;
 };
+
+static struct outcome refused(unsigned answer)
+{
+    return (struct outcome){.answer = answer};
+}
 
 static int load(void)
 {
@@ -45,6 +50,14 @@ static uint16_t stage(const uint16_t *numbers, uint16_t lines)
     return joined;
 }
 
+/* How many cards show what the lines settled to. A card that does not compete shows 0, and the lines never settle to that. */
+static uint16_t matches(const uint16_t *numbers, uint16_t lines)
+{
+    uint16_t count = 0;
+    for (int i = 0; i < CARDS; i++) count = (uint16_t)(count + (numbers[i] == lines));
+    return count;
+}
+
 static void show_numbers(uint16_t *numbers)
 {
     const uint16_t span = (uint16_t)(1u << k);
@@ -67,8 +80,8 @@ static int some_loser_full(unsigned winner)
 
 static struct outcome arbitrate(void)
 {
-    if (elected) return (struct outcome){13, 0, 0, 0};
-    if (!waiters) return (struct outcome){14, 0, 0, 0};
+    if (elected) return refused(13);
+    if (!waiters) return refused(14);
     uint16_t numbers[CARDS], lines = kept, next;
     show_numbers(numbers);
     unsigned t = 0;
@@ -78,7 +91,7 @@ static struct outcome arbitrate(void)
     }
     unsigned winner = lines & ((1u << k) - 1);
     if (rule == 2) {
-        if (some_loser_full(winner)) return (struct outcome){16, 0, 0, 0};
+        if (some_loser_full(winner)) return refused(16);
         for (int i = 0; i < CARDS; i++) counts[i] = (uint8_t)(counts[i] + waiting[i]);
         counts[winner] = 0;
     }
@@ -88,44 +101,46 @@ static struct outcome arbitrate(void)
     last = winner;
     if (holder) elected = winner;
     else holder = winner;
-    return (struct outcome){0, winner, lines, t};
+    return (struct outcome){0, winner, lines, t, matches(numbers, lines)};
 }
 
 static struct outcome request(unsigned a)
 {
-    if (a >= CARDS || !slots[a]) return (struct outcome){11, 0, 0, 0};
-    if (waiting[a] || a == elected) return (struct outcome){12, 0, 0, 0};
+    if (a >= CARDS || !slots[a]) return refused(11);
+    if (waiting[a] || a == elected) return refused(12);
     waiting[a] = 1;
     counts[a] = 0;
     waiters++;
-    return (struct outcome){0, 0, 0, 0};
+    return (struct outcome){0};
 }
 
 static struct outcome release(unsigned a)
 {
-    if (a >= CARDS || !slots[a]) return (struct outcome){11, 0, 0, 0};
-    if (holder != a) return (struct outcome){15, 0, 0, 0};
+    if (a >= CARDS || !slots[a]) return refused(11);
+    if (holder != a) return refused(15);
     holder = elected;
     elected = 0;
-    return (struct outcome){0, 0, 0, 0};
+    return (struct outcome){0};
 }
 
-static void put2(uint8_t *out, unsigned x)
+/* A row is made where its event is answered, so that what is 0 there is written as such: by itself gcc stops doing so at 22 bytes. */
+static inline __attribute__((always_inline)) void put2(uint8_t *out, unsigned x)
 {
     out[0] = (uint8_t)('0' + x / 10 % 10);
     out[1] = (uint8_t)('0' + x % 10);
 }
 
-static void put_row(uint8_t *out, const uint8_t *event, struct outcome o)
+static inline __attribute__((always_inline)) void put_row(uint8_t *out, const uint8_t *event, struct outcome o)
 {
     memcpy(out, event, 4);
-    out[4] = out[7] = out[10] = out[15] = ' ';
+    out[4] = out[7] = out[10] = out[15] = out[18] = ' ';
     put2(out + 5, o.answer);
     put2(out + 8, o.winner);
     put2(out + 11, o.lines / 100);
     put2(out + 13, o.lines);
     put2(out + 16, o.stages);
-    out[18] = '\n';
+    put2(out + 19, o.matches);
+    out[21] = '\n';
 }
 
 /* Answers one line; 0 where it is malformed. */
@@ -161,10 +176,10 @@ int main(void)
         size_t len = kept + (size_t)got, at = 0, to = 0;
         int good = 1;
         for (; at + LINE <= len && good; at += LINE, to += ROW) good = answer(in + at, out + to);
-        if (!good) memcpy(out + to - ROW, "---- 18 00 0000 00\n", ROW);
+        if (!good) memcpy(out + to - ROW, "---- 18 00 0000 00 00\n", ROW);
         if (!write_all(out, to) || !good) return !good;
         kept = len - at;
         memmove(in, in + at, kept);
     }
-    return kept && !write_all((const uint8_t *)"---- 18 00 0000 00\n", ROW);
+    return kept && !write_all((const uint8_t *)"---- 18 00 0000 00 00\n", ROW);
 }

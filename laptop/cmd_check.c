@@ -3,8 +3,10 @@
 
 #include "commands.h"
 #include "numbers.h"
+#include "rack.h"
 #include "say.h"
-#include "table.h"
+#include "tabfile.h"
+#include "twice.h"
 
 static void print_number(uint32_t number)
 {
@@ -14,8 +16,12 @@ static void print_number(uint32_t number)
 int check_command(struct words words)
 {
     expect_words(&words, 1, 1, "check rack.tab");
-    uint32_t number = check_file(words.word[0]);
+    struct tabfile file = read_tabfile(words.word[0]);
+    uint32_t number = rack_check(file.bytes, file.length);
     print_number(number);
+    if (number == USED_TWICE) {
+        print_twice(&file);
+    }
     return number == 0 ? ALL_WELL : BAD_INPUT;
 }
 

@@ -1,4 +1,5 @@
-/* racklap settle: the lines after each stage, how many there can be, and who withdraws what. */
+/* racklap settle: the lines after each stage, whether cards show the same number, how many stages
+ * there can be, and who withdraws what. */
 #include <limits.h>
 #include <stdio.h>
 
@@ -24,6 +25,16 @@ static void print_stages(const struct settling *settling)
         putchar('\n');
     }
     printf("settled at %u after t = %u\n", lines_after(settling, settling->t), settling->t);
+}
+
+/* Names the number to look for where more than one card shows it. */
+static void print_clones(const struct settling *settling)
+{
+    unsigned settled = lines_after(settling, settling->t);
+    if (settling->matches > 1) {
+        printf("%u of the %zu numbers are %u: %u cards show %u, look for the clone\n",
+               settling->matches, settling->count, settled, settling->matches, settled);
+    }
 }
 
 /* Prints "line 1" or "lines 3, 1", the most significant first. */
@@ -74,6 +85,7 @@ int settle_command(struct words words)
     uint32_t start = from == NULL ? 0 : number_word(from, UINT32_MAX);
     struct settling settling = settle(m, start, (size_t)words.count - 1, words.word + 1);
     print_stages(&settling);
+    print_clones(&settling);
     print_bounds(&settling);
     print_changes(&settling);
     finish_output();

@@ -28,11 +28,11 @@ int why_command(struct words words)
     }
     inquiry.listing = read_listing(stdin);
     check_fit(&inquiry.listing, &inquiry.table);
-    bool broken = rows ? print_rows(&inquiry) : print_report(&inquiry);
+    bool wrong = rows ? print_rows(&inquiry) : print_report(&inquiry);
     finish_output();
     if (svg != NULL) {
-        write_svg(&inquiry, broken, svg);
+        write_svg(&inquiry, wrong, svg);
     }
     free_listing(&inquiry.listing);
-    return broken ? PROMISE_BROKEN : ALL_WELL;
+    return wrong ? NOT_AS_PROMISED : ALL_WELL;
 }

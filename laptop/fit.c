@@ -18,9 +18,10 @@ static const char *misfit(const bool waits[NUMBERS], struct bus bus, const struc
                : bus.elected == number ? "asks though it is elected already"
                                        : NULL;
     case 'A':
-        return !waits[number]     ? "wins though it does not wait"
-               : bus.elected != 0 ? "wins though a card is elected already"
-                                  : NULL;
+        return !waits[number]        ? "wins though it does not wait"
+               : bus.elected != 0    ? "wins though a card is elected already"
+               : event->matches == 0 ? "wins though no card shows the settled lines"
+                                     : NULL;
     default:
         return bus.holder != number ? "releases a bus that it does not hold" : NULL;
     }

@@ -7,10 +7,12 @@
 #include "numbers.h"
 #include "say.h"
 
-/* Where the fields of a line stand: event, answer, winner, settled lines, stages. */
-static const char shape[] = ".... 00 00 0000 00\n";
+/* Where the fields of a line stand: event, answer, winner, settled lines, stages, matches. */
+static const char shape[] = ".... 00 00 0000 00 00\n";
+static const char old_shape[] = ".... 00 00 0000 00\n"; /* from before there were matches */
 enum {
     LINE_BYTES = sizeof shape - 1,
+    OLD_LINE_BYTES = sizeof old_shape - 1,
     EVENT_AT = 0,
     EVENT_BYTES = 4,
     NUMBER_AT = 2,
@@ -18,12 +20,13 @@ enum {
     WINNER_AT = 8,
     SETTLED_AT = 11,
     STAGES_AT = 16,
+    MATCHES_AT = 19,
 };
 
 static bool reports_nothing(const char *line)
 {
     return number_at(line, WINNER_AT) == 0 && number_at(line, SETTLED_AT) == 0 &&
-           number_at(line, STAGES_AT) == 0;
+           number_at(line, STAGES_AT) == 0 && number_at(line, MATCHES_AT) == 0;
 }
 
 /* The refusal of a line that ends a listing, or 0 if it is not such a line. */
@@ -45,6 +48,7 @@ static bool read_event(const char *line, struct event *event)
     event->number = (uint8_t)number_at(line, NUMBER_AT);
     event->answer = (uint8_t)number_at(line, ANSWER_AT);
     event->winner = (uint8_t)number_at(line, WINNER_AT);
+    event->matches = (uint8_t)number_at(line, MATCHES_AT);
     bool known = event->answer == 0 || (event->answer >= 11 && event->answer <= 17);
     bool wins = event->letter == 'A' && event->answer == 0;
     return known && (event->letter != 'A' || event->number == 0) &&
@@ -81,6 +85,16 @@ static bool take_line(struct listing *listing, size_t *room, const char *line)
     return listing->refusal != 0 && alone;
 }
 
+/* What is wrong with bytes that are no line of a listing. */
+static const char *fault_of(const char *line, size_t bytes)
+{
+    if (bytes >= OLD_LINE_BYTES && has_shape(line, old_shape, OLD_LINE_BYTES)) {
+        return "comes from an older racktrace, without the two digits that tell of cloned cards: "
+               "please print the listing again with the racktrace that belongs to this racklap";
+    }
+    return "is none: expected one like A 00 00 06 0006 02 01";
+}
+
 struct listing read_listing(FILE *stream)
 {
     struct listing listing = {.lines = 0};
@@ -98,7 +112,7 @@ struct listing read_listing(FILE *stream)
     }
     if (bytes > 0) {
         free_listing(&listing);
-        bad_input("listing line %zu is none: expected one like A 00 00 06 0006 02", whole + 1);
+        bad_input("listing line %zu %s", whole + 1, fault_of(line, bytes));
     }
     return listing;
 }

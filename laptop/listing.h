@@ -10,11 +10,12 @@
 #include "bus.h"
 
 struct event {
-    char letter;    /* Q, A or R */
-    uint8_t number; /* of the card that asks or releases, 0 for A */
-    uint8_t answer; /* 0 where the event was done */
-    uint8_t winner; /* 0 but for an arbitration that was done: a grant, or an election */
-    struct bus bus; /* after it, with all events before it */
+    char letter;     /* Q, A or R */
+    uint8_t number;  /* of the card that asks or releases, 0 for A */
+    uint8_t answer;  /* 0 where the event was done */
+    uint8_t winner;  /* 0 but for an arbitration that was done: a grant, or an election */
+    uint8_t matches; /* how many cards showed the settled lines, 0 where winner is 0 */
+    struct bus bus;  /* after it, with all events before it */
 };
 
 /* Lines are counted from 1, as a technician counts them. */

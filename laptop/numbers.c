@@ -28,7 +28,8 @@ static const struct screen_number screen_numbers[] = {
      "the table again from the software that wrote it."},
     {7, "a number or slot out of range or used twice",
      "Look at the number and the slot of each card: numbers 1 to 2^k - 1, slots 1 to 63, no two "
-     "cards alike. A card copied onto a spare carries the old number: give the spare its own."},
+     "cards alike; racklap check names what stands twice. A card copied onto a spare carries the "
+     "old number: give the spare its own."},
     {8, "save buffer under 24 + 2N bytes (after 17)",
      "The table is good. The program that saves it lends too little memory: tell its maker that "
      "N cards need 24 + 2N bytes."},

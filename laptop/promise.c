@@ -1,5 +1,6 @@
 #include "promise.h"
 
+#include "times.h"
 #include "waits.h"
 
 bool has_bound(const struct table *table)
@@ -10,17 +11,6 @@ bool has_bound(const struct table *table)
 void print_grants(FILE *file, size_t grants)
 {
     fprintf(file, grants == 1 ? "%zu grant to another" : "%zu grants to others", grants);
-}
-
-void print_times(FILE *file, size_t times)
-{
-    if (times == 1) {
-        fputs("once", file);
-    } else if (times == 2) {
-        fputs("twice", file);
-    } else {
-        fprintf(file, "%zu times", times);
-    }
 }
 
 /* The most grants to all other cards together in one wait. */

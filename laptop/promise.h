@@ -12,9 +12,6 @@ bool has_bound(const struct table *table);
 /* Prints "2 grants to others", "1 grant to another". */
 void print_grants(FILE *file, size_t grants);
 
-/* Prints "once", "twice" or "3 times". */
-void print_times(FILE *file, size_t times);
-
 /* Prints the answer for the technician in one sentence. */
 void print_answer(FILE *file, const struct inquiry *inquiry);
 

@@ -12,10 +12,13 @@
 /* Settles m arbitration lines, which carry `start`, for the competing numbers.
  *
  * Numbers and stages are entries of two bytes each, low byte first; an odd last byte is passed
- * over. Returns t, the number of stages: entries 0 to t of `stages` then hold the lines after each
- * stage, entry 0 the start, and the entries beyond keep their contents. Or returns 100 plus the
- * refusal, 21 to 25. `numbers` and `stages` may not overlap: every stage reads the numbers again,
- * and the stages before it have been written by then. */
+ * over. Returns t + 256 * matches. t is the number of stages, at most 12: entries 0 to t of
+ * `stages` then hold the lines after each stage, entry 0 the start, and the entries beyond keep
+ * their contents. `matches` says how many of the numbers equal the settled lines, 0 for an empty
+ * list: more than 1 and cards show the same number. So t is what is returned % 256, `matches`
+ * what is returned / 256. Or returns 100 plus the refusal, 21 to 25, which no settling returns.
+ * `numbers` and `stages` may not overlap: every stage reads the numbers again, and the stages
+ * before it have been written by then. */
 uint32_t rack_settle(uint32_t m, const uint8_t *numbers, size_t numbers_len, uint8_t *stages,
                      size_t stages_len, uint32_t start);
 

@@ -1,8 +1,10 @@
 #include "report.h"
 
 #include "bus.h"
+#include "clones.h"
 #include "during.h"
 #include "promise.h"
+#include "times.h"
 #include "waits.h"
 
 static void print_heading(const struct inquiry *inquiry)
@@ -85,17 +87,19 @@ static void print_longest(const struct inquiry *inquiry)
            has_election(&inquiry->listing) ? " An election counts as a grant." : "");
 }
 
-/* What the rule promises, whether the listing kept it, and the answer if it did. */
+/* What the rule promises, which cards have a clone, whether the listing kept the promise, and the
+ * answer if nothing is wrong. */
 static bool print_verdict(const struct inquiry *inquiry)
 {
     print_promise(stdout, inquiry);
+    bool cloned = print_clones(stdout, inquiry);
     bool broken = print_broken(stdout, inquiry);
-    if (!broken) {
+    if (!cloned && !broken) {
         fputs("Answer: ", stdout);
         print_answer(stdout, inquiry);
         putchar('\n');
     }
-    return broken;
+    return cloned || broken;
 }
 
 bool print_report(const struct inquiry *inquiry)

@@ -1,4 +1,5 @@
-/* The two forms in which racklap why answers. Both return whether the promise was broken. */
+/* The two forms in which racklap why answers. Both return whether something is wrong with the rack:
+ * a card has a clone, or the promise was broken. */
 #ifndef REPORT_H
 #define REPORT_H
 

@@ -1,3 +1,4 @@
+#include "clones.h"
 #include "promise.h"
 #include "report.h"
 #include "waits.h"
@@ -27,5 +28,7 @@ bool print_rows(const struct inquiry *inquiry)
     }
     printf("longest %zu\n", longest_wait(&inquiry->listing, inquiry->number).others);
     print_ending(stderr, &inquiry->listing);
-    return print_broken(stderr, inquiry);
+    bool cloned = print_clones(stderr, inquiry);
+    bool broken = print_broken(stderr, inquiry);
+    return cloned || broken;
 }

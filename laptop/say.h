@@ -4,7 +4,8 @@
 
 #include <stdio.h>
 
-enum { ALL_WELL = 0, BAD_INPUT = 1, WRONG_USAGE = 2, PROMISE_BROKEN = 3 };
+/* NOT_AS_PROMISED is for a listing that breaks the promise of its rule, or shows a cloned card. */
+enum { ALL_WELL = 0, BAD_INPUT = 1, WRONG_USAGE = 2, NOT_AS_PROMISED = 3 };
 
 /* Says what is wrong with a file, a listing or a value, and ends with BAD_INPUT. */
 _Noreturn void bad_input(const char *format, ...);

@@ -5,8 +5,9 @@
 #include "rack.h"
 #include "say.h"
 
-/* The entry answers 100 plus the number of the refusal, or t, which is at most 12. */
-enum { REFUSED = 100, GREATEST_ENTRY = 65535 };
+/* The entry answers t, which is at most 12, plus MATCH for each number that equals the settled
+ * lines; or REFUSED plus the number of the refusal. */
+enum { REFUSED = 100, MATCH = 256, GREATEST_ENTRY = 65535 };
 
 static unsigned entry_at(const uint8_t *entries, size_t index)
 {
@@ -36,10 +37,11 @@ struct settling settle(uint32_t m, uint32_t start, size_t count, char **numbers)
     keep_numbers(&settling, count, numbers);
     uint32_t answer = rack_settle(m, settling.numbers, settling.count * ENTRY_BYTES,
                                   settling.stages, sizeof settling.stages, start);
-    if (answer >= REFUSED) {
+    settling.t = answer % MATCH;
+    settling.matches = answer / MATCH;
+    if (settling.t >= REFUSED) {
         bad_input("refused with %u: %s", answer - REFUSED, meaning_of(answer - REFUSED));
     }
-    settling.t = answer;
     return settling;
 }
 

@@ -13,6 +13,7 @@ struct settling {
     uint32_t start; /* what the lines carry at stage 0 */
     size_t count; /* competing numbers */
     uint32_t t;
+    uint32_t matches; /* competing numbers that equal the settled lines */
     uint8_t numbers[KEPT_NUMBERS * ENTRY_BYTES]; /* two bytes each, low byte first */
     uint8_t stages[(MOST_LINES + 1) * ENTRY_BYTES];
 };

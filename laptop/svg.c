@@ -1,6 +1,7 @@
 #include "svg.h"
 
 #include "bars.h"
+#include "clones.h"
 #include "layout.h"
 #include "promise.h"
 #include "say.h"
@@ -48,19 +49,28 @@ static void draw_extent(FILE *file, const struct inquiry *inquiry, const struct 
     close_text(file);
 }
 
-static void draw_head(FILE *file, const struct inquiry *inquiry, const struct layout *layout,
-                      bool broken)
+/* Says what is wrong, a clone before all else, as it may be the cause of the rest; or answers. */
+static void draw_answer(FILE *file, const struct inquiry *inquiry, bool wrong)
 {
-    open_text(file, "title", MARGIN, 34);
-    fprintf(file, "Why does slot %u wait?", inquiry->slot);
-    close_text(file);
-    open_text(file, broken ? "loud" : "answer", MARGIN, 60);
-    if (broken) {
+    unsigned cloned = first_cloned(&inquiry->listing);
+    open_text(file, wrong ? "loud" : "answer", MARGIN, 60);
+    if (cloned != 0) {
+        fprintf(file, "CLONED CARD: look for number %u.", cloned);
+    } else if (wrong) {
         fputs("PROMISE BROKEN in this listing.", file);
     } else {
         print_answer(file, inquiry);
     }
     close_text(file);
+}
+
+static void draw_head(FILE *file, const struct inquiry *inquiry, const struct layout *layout,
+                      bool wrong)
+{
+    open_text(file, "title", MARGIN, 34);
+    fprintf(file, "Why does slot %u wait?", inquiry->slot);
+    close_text(file);
+    draw_answer(file, inquiry, wrong);
     open_text(file, "note", MARGIN, 82);
     fprintf(file, "Rule %u %s, cards: %zu. Longest wait: ", inquiry->table.rule_number,
             inquiry->table.rule->name, inquiry->table.cards);
@@ -165,7 +175,7 @@ static void draw_legend(FILE *file, const struct inquiry *inquiry, const struct 
     draw_words(file, "note", MARGIN + 285, y + 70, "refused event");
 }
 
-void write_svg(const struct inquiry *inquiry, bool broken, const char *name)
+void write_svg(const struct inquiry *inquiry, bool wrong, const char *name)
 {
     struct layout layout = lay_out(inquiry);
     double height = picture_height(&layout);
@@ -174,7 +184,7 @@ void write_svg(const struct inquiry *inquiry, bool broken, const char *name)
             height);
     fprintf(file, "<title>Why does slot %u wait?</title>\n%s", inquiry->slot, style);
     draw_box(file, "paper", 0, 0, WIDTH, height);
-    draw_head(file, inquiry, &layout, broken);
+    draw_head(file, inquiry, &layout, wrong);
     draw_shades(file, inquiry, &layout);
     for (size_t band = 0; band < layout.bands; band++) {
         draw_band(file, inquiry, &layout, band);

@@ -5,6 +5,7 @@
 
 #include "inquiry.h"
 
-void write_svg(const struct inquiry *inquiry, bool broken, const char *name);
+/* `wrong` says that a card has a clone or that the promise was broken. */
+void write_svg(const struct inquiry *inquiry, bool wrong, const char *name);
 
 #endif

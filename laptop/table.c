@@ -1,41 +1,11 @@
 #include "table.h"
 
-#include <errno.h>
-#include <string.h>
-
 #include "numbers.h"
 #include "rack.h"
 #include "say.h"
+#include "tabfile.h"
 
-/* One byte more than the greatest table, so that a greater file is seen to be greater. */
-enum { FILE_BYTES = 8192 + 1, TABLE_BYTES = 2 + NUMBERS };
-
-struct file {
-    uint8_t bytes[FILE_BYTES];
-    size_t length;
-};
-
-static struct file read_file(const char *name)
-{
-    struct file file = {.length = 0};
-    FILE *stream = fopen(name, "rb");
-    if (stream == NULL) {
-        bad_input("cannot read %s: %s", name, strerror(errno));
-    }
-    file.length = fread(file.bytes, 1, sizeof file.bytes, stream);
-    int failed = ferror(stream) ? errno : 0;
-    fclose(stream);
-    if (failed) {
-        bad_input("cannot read %s: %s", name, strerror(failed));
-    }
-    return file;
-}
-
-uint32_t check_file(const char *name)
-{
-    struct file file = read_file(name);
-    return rack_check(file.bytes, file.length);
-}
+enum { TABLE_BYTES = 2 + NUMBERS };
 
 static struct table table_from(const uint8_t bytes[TABLE_BYTES])
 {
@@ -53,7 +23,7 @@ static struct table table_from(const uint8_t bytes[TABLE_BYTES])
 
 struct table load_table(const char *name)
 {
-    struct file file = read_file(name);
+    struct tabfile file = read_tabfile(name);
     uint8_t bytes[TABLE_BYTES] = {0};
     uint32_t refusal = rack_table(file.bytes, file.length, bytes, sizeof bytes);
     if (refusal != 0) {

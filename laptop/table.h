@@ -19,9 +19,6 @@ struct table {
     size_t cards;
 };
 
-/* The proved judgement on the file: 1 to 7, or 0. Ends with bad input if it cannot be read. */
-uint32_t check_file(const char *name);
-
 /* Ends with bad input if the file cannot be read or is refused. */
 struct table load_table(const char *name);
 

@@ -13,7 +13,7 @@ extern "C" {
     fn rack_table(file: *const u8, len: usize, out: *mut u8, out_len: usize) -> u32;
 }
 
-/// The stages t, or 100 plus the refusal.
+/// The stages t plus 256 times the copies, or 100 plus the refusal.
 pub fn settle(m: u32, numbers: &[u8], stages: &mut [u8], start: u32) -> u32 {
     // SAFETY: each pointer comes from a slice that lives through the call, with its own length.
     unsafe {

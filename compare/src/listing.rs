@@ -3,7 +3,7 @@
 use crate::rack::{Event, Outcome, Rack};
 
 pub const TRACE_LINE: usize = 5;
-pub const LISTING_LINE: usize = 19;
+pub const LISTING_LINE: usize = 22;
 
 /// The event of a trace line, or nothing if the line is malformed or incomplete.
 pub fn event(line: &[u8]) -> Option<Event> {
@@ -27,8 +27,9 @@ fn listing_line(first: &[u8], answer: u32, outcome: Outcome) -> Vec<u8> {
         winner,
         lines,
         stages,
+        copies,
     } = outcome;
-    let fields = format!(" {answer:02} {winner:02} {lines:04} {stages:02}\n");
+    let fields = format!(" {answer:02} {winner:02} {lines:04} {stages:02} {copies:02}\n");
     [first, fields.as_bytes()].concat()
 }
 

@@ -78,6 +78,8 @@ pub struct Outcome {
     pub winner: u8,
     pub lines: u16,
     pub stages: u8,
+    /// How many competing numbers equal the settled lines.
+    pub copies: u8,
 }
 
 impl Rack {
@@ -248,13 +250,13 @@ impl Rack {
             .iter()
             .map(|&card| (rule.number)(self, card))
             .collect();
-        let stages = settling::settle(m, &numbers, m as usize + 1, self.kept.into())
+        let settled = settling::settle(m, &numbers, m as usize + 1, self.kept.into())
             .expect("a well-formed state competes within the lines");
-        let lines = stages[stages.len() - 1];
         Outcome {
-            winner: (lines % (1 << self.table.k)) as u8,
-            lines,
-            stages: (stages.len() - 1) as u8,
+            winner: (settled.lines() % (1 << self.table.k)) as u8,
+            lines: settled.lines(),
+            stages: settled.t(),
+            copies: settled.copies,
         }
     }
 

@@ -9,8 +9,10 @@ use crate::table::{self, Table};
 pub const STATE: usize = 2 + 5 * 64 + 4 + 2 + 1;
 /// A state, a letter and a number.
 pub const RECORD: usize = STATE + 2;
-/// A state and five bytes about what became of it; after a save the lent bytes follow.
-pub const ANSWER: usize = STATE + 5;
+/// A state, five bytes about what became of it, and the copies; after a save the lent bytes follow.
+pub const ANSWER: usize = STATE + 6;
+/// Where an answer has the copies.
+pub const COPIES: usize = ANSWER - 1;
 
 const LENT: u8 = 0xee;
 
@@ -137,7 +139,7 @@ fn told(rack: &Rack, what: Result<u8, u32>) -> Vec<u8> {
         Ok(told) => (0, told),
         Err(refusal) => (refusal as u8, 0),
     };
-    [state_bytes(rack), vec![number, told, 0, 0, 0]].concat()
+    [state_bytes(rack), vec![number, told, 0, 0, 0, 0]].concat()
 }
 
 fn event(rack: &Rack, ask: Ask) -> Vec<u8> {
@@ -152,7 +154,13 @@ fn event(rack: &Rack, ask: Ask) -> Vec<u8> {
         Err(refusal) => (*rack, refusal as u8, Outcome::default()),
     };
     let [low, high] = outcome.lines.to_le_bytes();
-    let report = vec![number, outcome.winner, low, high, outcome.stages];
+    let Outcome {
+        winner,
+        stages,
+        copies,
+        ..
+    } = outcome;
+    let report = vec![number, winner, low, high, stages, copies];
     [state_bytes(&next), report].concat()
 }
 
@@ -163,6 +171,6 @@ fn save(rack: &Rack, lent: usize) -> Vec<u8> {
         Err(refusal) => (refusal as u8, 0),
     };
     let [low, high] = length.to_le_bytes();
-    let report = vec![number, low, high, 0, 0];
+    let report = vec![number, low, high, 0, 0, 0];
     [state_bytes(rack), report, buffer].concat()
 }

@@ -21,15 +21,34 @@ pub fn bytes(numbers: &[u16]) -> Vec<u8> {
         .collect()
 }
 
-/// The stages t, or 100 plus the refusal.
+/// The stages t plus 256 times the copies, or 100 plus the refusal.
 pub fn settle(m: u32, competing: &[u8], buffer: &mut [u8], start: u32) -> u32 {
     match settling::settle(m, &numbers(competing), buffer.len() / 2, start) {
-        Ok(stages) => {
-            let written = bytes(&stages);
+        Ok(settled) => {
+            let written = bytes(&settled.stages);
             buffer[..written.len()].copy_from_slice(&written);
-            stages.len() as u32 - 1
+            u32::from(settled.t()) + 256 * u32::from(settled.copies)
         }
         Err(refusal) => 100 + refusal,
+    }
+}
+
+/// What an answer of the settling says when it is done.
+#[derive(Clone, Copy, Debug, PartialEq, Eq)]
+pub struct Done {
+    pub t: u32,
+    pub copies: u32,
+}
+
+/// An answer of the settling taken apart: what is done, or the refusal. There are at most 12 stages,
+/// so that a low byte of 100 or more is no t.
+pub fn settled(answer: u32) -> Result<Done, u32> {
+    match answer {
+        100..=255 => Err(answer - 100),
+        _ => Ok(Done {
+            t: answer % 256,
+            copies: answer / 256,
+        }),
     }
 }
 
@@ -49,5 +68,32 @@ pub fn table(file: &[u8], buffer: &mut [u8]) -> u32 {
             buffer[2..TABLE_BYTES].copy_from_slice(&table.slots);
             0
         }
+    }
+}
+
+#[cfg(test)]
+mod tests {
+    use super::{bytes, settle, settled, Done};
+
+    fn answer(m: u32, numbers: &[u16], start: u32) -> u32 {
+        let mut buffer = vec![0; 2 * (m as usize + 1)];
+        settle(m, &bytes(numbers), &mut buffer, start)
+    }
+
+    #[test]
+    fn copies_are_added_256_times() {
+        assert_eq!(answer(4, &[2, 5, 9, 10], 0), 4 + 256);
+        assert_eq!(answer(3, &[5; 64], 0), 1 + 256 * 64);
+        assert_eq!(answer(4, &[], 15), 1);
+        assert_eq!(answer(4, &[5; 65], 0), 122);
+    }
+
+    #[test]
+    fn an_answer_taken_apart() {
+        let done = |t, copies| Ok(Done { t, copies });
+        assert_eq!(settled(1 + 256 * 64), done(1, 64));
+        assert_eq!(settled(12), done(12, 0));
+        assert_eq!(settled(256), done(0, 1));
+        assert_eq!(settled(125), Err(25));
     }
 }

@@ -56,14 +56,65 @@ fn refusal(m: u32, numbers: &[u16], places: usize, start: u32) -> Option<u32> {
     (start > greatest).then_some(25)
 }
 
-/// The lines as numbers from stage 0 to stage t, or the refusal. Stage 0 is the start.
+/// What a list settles to.
+#[derive(Debug, PartialEq, Eq)]
+pub struct Settled {
+    /// The lines as numbers from stage 0 to stage t. Stage 0 is the start.
+    pub stages: Vec<u16>,
+    /// How many entries of the list equal the settled lines: the figure of request A9.
+    pub copies: u8,
+}
+
+impl Settled {
+    pub fn lines(&self) -> u16 {
+        self.stages[self.stages.len() - 1]
+    }
+
+    pub fn t(&self) -> u8 {
+        self.stages.len() as u8 - 1
+    }
+}
+
+/// The settled lines and how they came about, or the refusal.
 /// `places` is the number of entries in the buffer that the caller lends.
-pub fn settle(m: u32, numbers: &[u16], places: usize, start: u32) -> Result<Vec<u16>, u32> {
+pub fn settle(m: u32, numbers: &[u16], places: usize, start: u32) -> Result<Settled, u32> {
     if let Some(number) = refusal(m, numbers, places, start) {
         return Err(number);
     }
     let m = m as usize;
     let competitors: Vec<Lines> = numbers.iter().map(|&number| bits(number, m)).collect();
-    let start = bits(start as u16, m);
-    Ok(stages(&competitors, start).iter().map(value).collect())
+    let stages = stages(&competitors, bits(start as u16, m));
+    let settled = &stages[stages.len() - 1];
+    let equal = competitors.iter().filter(|own| *own == settled);
+    Ok(Settled {
+        copies: equal.count() as u8,
+        stages: stages.iter().map(value).collect(),
+    })
+}
+
+#[cfg(test)]
+mod tests {
+    use super::settle;
+
+    fn copies(m: u32, numbers: &[u16], start: u32) -> Result<u8, u32> {
+        settle(m, numbers, m as usize + 1, start).map(|settled| settled.copies)
+    }
+
+    #[test]
+    fn entries_that_equal_the_settled_lines() {
+        assert_eq!(copies(3, &[5, 5], 0), Ok(2));
+        assert_eq!(copies(3, &[5, 6, 5], 0), Ok(1));
+        assert_eq!(copies(3, &[5, 6, 5], 7), Ok(1));
+        assert_eq!(copies(12, &[4095; 64], 0), Ok(64));
+        assert_eq!(copies(1, &[0], 0), Ok(1));
+        assert_eq!(copies(1, &[0, 0], 1), Ok(2));
+    }
+
+    #[test]
+    fn none_of_an_empty_list_or_a_refused_one() {
+        assert_eq!(copies(4, &[], 0), Ok(0));
+        assert_eq!(copies(4, &[], 15), Ok(0));
+        assert_eq!(copies(4, &[5; 65], 0), Err(22));
+        assert_eq!(copies(4, &[16, 16], 0), Err(23));
+    }
 }

@@ -44,11 +44,11 @@ fn number(digits: &[u8]) -> Option<u16> {
     })
 }
 
-/// What stands in the event's place, then answer, winner, lines and stages.
-fn fields(line: &[u8]) -> Option<(&[u8], [u16; 4])> {
+/// What stands in the event's place, then answer, winner, lines, stages and copies.
+fn fields(line: &[u8]) -> Option<(&[u8], [u16; 5])> {
     let has_the_form = line.len() == LISTING_LINE
         && line.ends_with(b"\n")
-        && [4, 7, 10, 15].iter().all(|&at| line[at] == b' ');
+        && [4, 7, 10, 15, 18].iter().all(|&at| line[at] == b' ');
     if !has_the_form {
         return None;
     }
@@ -57,6 +57,7 @@ fn fields(line: &[u8]) -> Option<(&[u8], [u16; 4])> {
         number(&line[8..10])?,
         number(&line[11..15])?,
         number(&line[16..18])?,
+        number(&line[19..21])?,
     ];
     Some((&line[..4], numbers))
 }
@@ -66,10 +67,10 @@ fn entry(line: &[u8]) -> Option<Entry> {
     let (first, numbers) = fields(line)?;
     let event = listing::event(&[first, b"\n"].concat())?;
     match (event, numbers) {
-        (Event::Request(card), [0, 0, 0, 0]) => Some(Entry::Asked(card)),
-        (Event::Release(card), [0, 0, 0, 0]) => Some(Entry::Released(card)),
-        (Event::Arbitrate, [0, winner, _, _]) => u8::try_from(winner).ok().map(Entry::Granted),
-        (_, [11..=17, 0, 0, 0]) => Some(Entry::Refused),
+        (Event::Request(card), [0, 0, 0, 0, 0]) => Some(Entry::Asked(card)),
+        (Event::Release(card), [0, 0, 0, 0, 0]) => Some(Entry::Released(card)),
+        (Event::Arbitrate, [0, winner, _, _, 1]) => u8::try_from(winner).ok().map(Entry::Granted),
+        (_, [11..=17, 0, 0, 0, 0]) => Some(Entry::Refused),
         _ => None,
     }
 }
@@ -78,7 +79,7 @@ fn entry(line: &[u8]) -> Option<Entry> {
 fn is_ending(line: &[u8]) -> bool {
     matches!(
         fields(line),
-        Some((b"tab.", [1..=7, 0, 0, 0]) | (b"----", [18, 0, 0, 0]))
+        Some((b"tab.", [1..=7, 0, 0, 0, 0]) | (b"----", [18, 0, 0, 0, 0]))
     )
 }
 
@@ -182,15 +183,15 @@ mod tests {
 
     #[test]
     fn a_refused_request_is_no_ask() {
-        let listing = first_lines(3) + "Q 05 12 00 0000 00\n";
+        let listing = first_lines(3) + "Q 05 12 00 0000 00 00\n";
         let rows = "asked 2 granted - others\nlongest 0\n";
         assert_eq!(rows_of(2, &listing).as_deref(), Ok(rows));
     }
 
     #[test]
     fn an_ending_is_passed_over_only_at_the_end() {
-        let malformed = "---- 18 00 0000 00\n";
-        let refused = "tab. 07 00 0000 00\n";
+        let malformed = "---- 18 00 0000 00 00\n";
+        let refused = "tab. 07 00 0000 00 00\n";
         assert_eq!(rows_of(1, "").as_deref(), Ok("longest 0\n"));
         assert_eq!(rows_of(1, refused).as_deref(), Ok("longest 0\n"));
         assert_eq!(
@@ -206,15 +207,21 @@ mod tests {
         assert!(rows_of(4, WORKED).is_err());
         let bad_lines = [
             "\n",
-            "Q 02 00 00 0000 00",
-            "Q 02 00 00 0000 00 \n",
-            "Q 02 00 00 0000 0x\n",
-            "Q-02 00 00 0000 00\n",
-            "Q 02 00 02 0000 00\n",
-            "Q 02 18 00 0000 00\n",
-            "Q 03 00 00 0000 00\n",
-            "A 00 00 00 0000 00\n",
-            "A 00 00 03 0003 01\n",
+            "Q 02 00 00 0000 00 00",
+            "Q 02 00 00 0000 00 00 \n",
+            "Q 02 00 00 0000 00 0x\n",
+            "Q 02 00 00 0000 00\n",
+            "Q 02 00 00 0000 00-00\n",
+            "Q 02 00 00 0000 00 01\n",
+            "Q-02 00 00 0000 00 00\n",
+            "Q 02 00 02 0000 00 00\n",
+            "Q 02 18 00 0000 00 00\n",
+            "Q 03 00 00 0000 00 00\n",
+            "A 00 00 00 0000 00 01\n",
+            "A 00 00 03 0003 01 01\n",
+            "A 00 00 06 0006 01 00\n",
+            "A 00 00 06 0006 01 02\n",
+            "A 00 14 00 0000 00 01\n",
         ];
         for bad in bad_lines {
             let message = "line 3 is no listing line of this rack".to_string();

@@ -1,9 +1,10 @@
 /* Reads what racklap settle printed and judges it line by line:
  * withdrawals M START n1 n2 .. < output.
  *
- * The stages are taken as printed. The bounds are worked out anew from the binary digits of the
- * greatest number. Who withdraws is worked out anew from the sentence of the scope: a competitor
- * applies 0 to line j if some line above j carries 1 where its own bit is 0. */
+ * The stages are taken as printed. Clones are counted among the numbers. The bounds are worked out
+ * anew from the binary digits of the greatest number. Who withdraws is worked out anew from the
+ * sentence of the scope: a competitor applies 0 to line j if some line above j carries 1 where its
+ * own bit is 0. */
 #include <stdbool.h>
 #include <stdio.h>
 #include <stdlib.h>
@@ -48,6 +49,21 @@ static void read_stages(void)
     t--;
     sprintf(row, "settled at %u after t = %u\n", stages[t], t);
     expect(row);
+}
+
+/* A row names the settled value where more than one competitor has it for its number. */
+static void expect_clones(int count, char **numbers)
+{
+    char row[256];
+    int clones = 0;
+    for (int i = 0; i < count; i++) {
+        clones += (unsigned)atoi(numbers[i]) == stages[t];
+    }
+    if (clones > 1) {
+        sprintf(row, "%d of the %d numbers are %u: %d cards show %u, look for the clone\n", clones,
+                count, stages[t], clones, stages[t]);
+        expect(row);
+    }
 }
 
 /* Writes the digits of a number without leading zeros, with a blank between two runs: how many runs
@@ -181,6 +197,7 @@ int main(int argc, char **argv)
     m = (unsigned)atoi(argv[1]);
     start = (unsigned)atoi(argv[2]);
     read_stages();
+    expect_clones(argc - 3, argv + 3);
     if (argc > 3) {
         expect_greatest(greatest_of(argc - 3, argv + 3));
     } else {

@@ -12,7 +12,7 @@ use compare::judge::named_settlings::KNOWN;
 use compare::report::Report;
 use compare::rng::Rng;
 use compare::seen_from_c;
-use compare::settling::MOST_LINES;
+use compare::settling::{Settled, MOST_LINES};
 use model::{Case, Stages};
 use std::process::ExitCode;
 
@@ -62,25 +62,35 @@ fn options(words: &[String]) -> Result<Options, String> {
     Ok(options)
 }
 
-fn settle_in_product(m: u32, case: &Case) -> Result<Stages, String> {
-    let places = m as usize + 1;
-    let mut buffer = vec![0; 2 * places];
+fn settle_in_product(m: u32, case: &Case) -> Result<Settled, String> {
+    let mut buffer = vec![0; 2 * (m as usize + 1)];
     let competing = seen_from_c::bytes(&case.numbers);
-    let t = entries::settle(m, &competing, &mut buffer, case.start.into()) as usize;
-    if t >= places {
-        return Err(format!("{case:?}: the product answered {t}"));
-    }
-    let mut stages = seen_from_c::numbers(&buffer);
-    stages.truncate(t + 1);
-    Ok(stages)
+    let answer = entries::settle(m, &competing, &mut buffer, case.start.into());
+    let no_answer = || format!("{case:?}: the product answered {answer}");
+    let done = seen_from_c::settled(answer).map_err(|_| no_answer())?;
+    let stages = seen_from_c::numbers(&buffer);
+    Ok(Settled {
+        stages: stages.get(..=done.t as usize).ok_or_else(no_answer)?.into(),
+        copies: done.copies.try_into().map_err(|_| no_answer())?,
+    })
 }
 
-/// Both must show the same lines, stage by stage, and so the same t.
-fn hold(case: &Case, who: &str, shown: &[u16], expected: &[u16]) -> Result<(), String> {
+/// The lines are the model's; a card whose number they carry at the end takes the bus.
+fn settled_in_verilog(case: &Case, stages: Stages) -> Settled {
+    let takes_the_bus = |number: &&u16| stages.last() == Some(*number);
+    let copies = case.numbers.iter().filter(takes_the_bus).count();
+    Settled {
+        copies: copies as u8,
+        stages,
+    }
+}
+
+/// Both must show the same lines, stage by stage, and so the same t, and as many copies.
+fn hold(case: &Case, who: &str, shown: &Settled, expected: &Settled) -> Result<(), String> {
     if shown == expected {
         return Ok(());
     }
-    let (t, expected_t) = (shown.len() - 1, expected.len() - 1);
+    let (t, expected_t) = (shown.t(), expected.t());
     Err(format!(
         "{case:?}: {who} shows {shown:?}, t = {t}; expected {expected:?}, t = {expected_t}"
     ))
@@ -103,10 +113,12 @@ fn test_known(report: &mut Report) {
             start: known.lines[0],
             numbers: known.competing.to_vec(),
         };
+        let stated = known.settled();
         let outcome = model::settle(m, std::slice::from_ref(&case))
-            .and_then(|answers| hold(&case, "Verilog", &answers[0], known.lines))
+            .map(|answers| settled_in_verilog(&case, answers[0].clone()))
+            .and_then(|verilog| hold(&case, "Verilog", &verilog, &stated))
             .and_then(|()| settle_in_product(m, &case))
-            .and_then(|stages| hold(&case, "the product", &stages, known.lines));
+            .and_then(|product| hold(&case, "the product", &product, &stated));
         report.test(known.name, outcome, &repeat(m, &case));
     }
     println!("{} known settlings", KNOWN.len());
@@ -119,9 +131,10 @@ fn test_cases(report: &mut Report, m: u32, cases: &[Case]) {
         Ok(answers) => answers,
         Err(what) => return report.test(&name, Err(what), PROGRAM),
     };
-    for (case, verilog) in cases.iter().zip(&answers) {
+    for (case, stages) in cases.iter().zip(&answers) {
+        let verilog = settled_in_verilog(case, stages.clone());
         let outcome = settle_in_product(m, case)
-            .and_then(|product| hold(case, "the product", &product, verilog));
+            .and_then(|product| hold(case, "the product", &product, &verilog));
         if outcome.is_err() {
             return report.test(&name, outcome, &repeat(m, case));
         }

@@ -62,10 +62,10 @@ mod tests {
 
     /// Both cards ask, card 2 is granted, and a request is refused.
     const LISTING: &[u8] = b"\
-Q 01 00 00 0000 00
-Q 02 00 00 0000 00
-A 00 00 02 0002 02
-Q 01 12 00 0000 00
+Q 01 00 00 0000 00 00
+Q 02 00 00 0000 00 00
+A 00 00 02 0002 02 01
+Q 01 12 00 0000 00 00
 ";
 
     fn judged(listing: &[u8], events: u32, grants: [u32; 2]) -> Result<(), String> {

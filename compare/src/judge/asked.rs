@@ -1,5 +1,6 @@
 //! States with what is asked of them, put to the product and to the reference alike.
 
+use super::copies;
 use super::expect::{expect, shown};
 use super::met::Met;
 use crate::rack::Rack;
@@ -41,6 +42,7 @@ pub fn hold(program: &Shared, records: &[Vec<u8>], met: &mut Met) -> Result<Vec<
         let (got, after) = rest.split_at(wanted.len());
         same(record, got, wanted)
             .and_then(|()| keeps_counting(record, got))
+            .and_then(|()| copies::hold_answer(record, got))
             .inspect_err(|_| program.end())?;
         met.meet(number_of(got));
         answers.push(got.to_vec());

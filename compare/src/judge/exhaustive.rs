@@ -1,5 +1,6 @@
 //! Small worlds, every member of them.
 
+use super::copies;
 use super::expect::expect;
 use super::guarded::agreed;
 use super::kind::Kind;
@@ -9,25 +10,27 @@ use super::stage_bounds;
 use super::traces::hold;
 use crate::entries;
 use crate::rng::Rng;
-use crate::seen_from_c;
+use crate::seen_from_c::{self, settled};
 
 /// The numbers settle from every start, and always to the same lines.
 fn from_every_start(m: u32, numbers: &[u16], rng: &mut Rng, met: &mut Met) -> Result<(), String> {
     let competing = seen_from_c::bytes(numbers);
-    let mut settled = Vec::new();
+    let mut all_lines = Vec::new();
     for start in 0..1 << m {
-        let (t, buffer) = agreed(
+        let (answer, buffer) = agreed(
             2 * (m as usize + 1),
             rng,
             |buffer| entries::settle(m, &competing, buffer, start),
             |buffer| seen_from_c::settle(m, &competing, buffer, start),
         )
         .map_err(|what| format!("numbers {numbers:?} from {start}: {what}"))?;
-        stage_bounds::hold(m, numbers, t, met)?;
-        settled.push(seen_from_c::numbers(&buffer)[t as usize]);
+        let done = settled(answer).map_err(|n| format!("numbers {numbers:?} give {n}"))?;
+        stage_bounds::hold(m, numbers, done.t, met)?;
+        copies::hold_list(m, numbers, done.copies, met)?;
+        all_lines.push(seen_from_c::numbers(&buffer)[done.t as usize]);
     }
-    expect(settled.iter().all(|lines| *lines == settled[0]), true)
-        .map_err(|_| format!("numbers {numbers:?} settle to {settled:?}"))
+    expect(all_lines.iter().all(|lines| *lines == all_lines[0]), true)
+        .map_err(|_| format!("numbers {numbers:?} settle to {all_lines:?}"))
 }
 
 fn every_set_of_numbers(m: u32) -> Kind {
@@ -36,6 +39,19 @@ fn every_set_of_numbers(m: u32) -> Kind {
         for set in 0..1u64 << numbers {
             let chosen: Vec<u16> = (0..numbers as u16).filter(|i| set >> i & 1 == 1).collect();
             from_every_start(m, &chosen, rng, met)?;
+        }
+        Ok(())
+    })
+}
+
+/// Every list of so many numbers, in which a number may come again.
+fn every_list(m: u32, length: u32) -> Kind {
+    let name = format!("every-list-of-{length}-numbers-m-{m}");
+    Kind::new(name, 1, move |rng, met| {
+        let number = |list: u32, place: u32| (list >> (m * place) & ((1 << m) - 1)) as u16;
+        for list in 0..1u32 << (m * length) {
+            let numbers: Vec<u16> = (0..length).map(|place| number(list, place)).collect();
+            from_every_start(m, &numbers, rng, met)?;
         }
         Ok(())
     })
@@ -96,6 +112,9 @@ fn every_byte_of_a_line(line: &'static [u8; 5], at: usize) -> Kind {
 
 pub fn kinds() -> Vec<Kind> {
     let mut kinds: Vec<Kind> = (1..=4).map(every_set_of_numbers).collect();
+    for m in 1..=3 {
+        kinds.extend((2..=4).map(|length| every_list(m, length)));
+    }
     kinds.extend((0..WORKED_TABLE.len()).map(every_byte_of_a_table));
     kinds.extend([0, 6, 8, 10].map(every_word_of_a_table));
     kinds.push(every_prefix_of_a_table());

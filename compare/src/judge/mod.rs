@@ -4,6 +4,7 @@ pub mod accepted_requests;
 pub mod asked;
 pub mod boundaries;
 pub mod conversation;
+pub mod copies;
 pub mod damage;
 pub mod draft;
 pub mod elections;
@@ -60,6 +61,7 @@ impl Sizes {
 pub fn bounds() -> Vec<String> {
     [
         stage_bounds::bounds(),
+        copies::bounds(),
         waiting_counts::bounds(),
         grants_during_waits::bounds(),
     ]

@@ -129,7 +129,7 @@ fn names(known: &Known, program: &Shared, met: &mut Met) -> Result<(), String> {
             _ => Bus::Free,
         };
         let answers = hold_foretelling(program, &both_asked(&rack), met)?;
-        expect(&answers[0][STATE..], &[0, known.next, 0, 0, 0])?;
+        expect(&answers[0][STATE..], &[0, known.next, 0, 0, 0, 0])?;
     }
     Ok(())
 }
@@ -147,7 +147,7 @@ fn named(program: &Shared) -> Vec<Kind> {
 /// A refused look names card 0.
 fn refuses(number: u8, rack: &Rack, program: &Shared, met: &mut Met) -> Result<(), String> {
     let answer = hold_expecting(number.into(), rack, NEXT, program, met)?;
-    expect(&answer[STATE..], &[number, 0, 0, 0, 0])
+    expect(&answer[STATE..], &[number, 0, 0, 0, 0, 0])
 }
 
 fn refused(
@@ -282,7 +282,7 @@ pub fn kinds(program: &Shared) -> Vec<Kind> {
 mod tests {
     use super::{both_asked, foretells, rack_of, small_racks, KNOWN};
     use crate::next_winner::next_winner;
-    use crate::seen_as_bytes::answer;
+    use crate::seen_as_bytes::{answer, STATE};
 
     #[test]
     fn the_reference_names_the_known_ones() {
@@ -308,8 +308,7 @@ mod tests {
     fn a_look_that_differs_from_the_arbitration() {
         let records = both_asked(&rack_of(3, 1, &[2, 6]));
         let mut answers = records.clone().map(|record| answer(&record));
-        let card = answers[0].len() - 4;
-        answers[0][card] = 2;
+        answers[0][STATE + 1] = 2;
         assert!(foretells(&records, &answers).is_err());
     }
 }

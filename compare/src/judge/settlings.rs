@@ -1,5 +1,6 @@
 //! Generated settlings through the C entry.
 
+use super::copies;
 use super::expect::expect;
 use super::guarded::agreed;
 use super::kind::{dashed, Kind};
@@ -8,8 +9,8 @@ use super::stage_bounds;
 use crate::entries;
 use crate::intervals::interval_number;
 use crate::rng::Rng;
-use crate::seen_from_c;
-use crate::settling::MOST_LINES;
+use crate::seen_from_c::{self, settled, Done};
+use crate::settling::{MOST_COMPETITORS, MOST_LINES};
 use crate::slowest;
 
 #[derive(Debug)]
@@ -114,10 +115,8 @@ fn slowest_below(greatest: u16, case: &mut Case, rng: &mut Rng) {
 }
 
 fn reaching(case: &Case, stages: u32, rng: &mut Rng, met: &mut Met) -> Result<(), String> {
-    match hold(case, rng, met)? {
-        t if t == stages => Ok(()),
-        t => Err(format!("{case:?}: {t}, not {stages}")),
-    }
+    let found = done(case, rng, met)?.t;
+    expect(found, stages).map_err(|what| format!("{case:?}: stages {what}"))
 }
 
 fn reaching_the_intervals(rng: &mut Rng, met: &mut Met) -> Result<(), String> {
@@ -141,15 +140,54 @@ fn reaching_the_lines(m: u32) -> Kind {
     })
 }
 
-/// The same list from another start settles to the same lines.
+/// The settled lines, and how many entries of the list equal them.
+fn lines_and_copies(case: &Case, rng: &mut Rng, met: &mut Met) -> Result<(u16, u32), String> {
+    let (answer, buffer) = both(case, rng, met)?;
+    let Done { t, copies } = accepted(case, answer)?;
+    Ok((seen_from_c::numbers(&buffer)[t as usize], copies))
+}
+
+/// The same list from another start settles to the same lines, with as many copies.
 fn from_another_start(rng: &mut Rng, met: &mut Met) -> Result<(), String> {
     let mut case = sound(rng);
-    let (t, buffer) = both(&case, rng, met)?;
-    let settled = seen_from_c::numbers(&buffer)[t as usize];
+    let settled = lines_and_copies(&case, rng, met)?;
     case.start = start(case.m, rng);
-    let (t, buffer) = both(&case, rng, met)?;
-    expect(seen_from_c::numbers(&buffer)[t as usize], settled)
-        .map_err(|what| format!("{case:?}: {what}"))
+    expect(lines_and_copies(&case, rng, met)?, settled).map_err(|what| format!("{case:?}: {what}"))
+}
+
+fn copied(case: &Case, copies: u32, rng: &mut Rng, met: &mut Met) -> Result<(), String> {
+    let found = done(case, rng, met)?.copies;
+    expect(found, copies).map_err(|what| format!("{case:?}: copies {what}"))
+}
+
+/// Copies of the greatest number, often as many as a list can have, and others below it.
+fn cloned_winners(rng: &mut Rng, met: &mut Met) -> Result<(), String> {
+    let mut case = sound(rng);
+    let greatest = number(case.m, rng);
+    let most = MOST_COMPETITORS as u64;
+    let any = rng.between(1, most);
+    let copies = *rng.pick(&[1, 2, most - 1, most, any]);
+    case.numbers = vec![greatest; copies as usize];
+    if greatest > 0 {
+        let others = rng.between(0, most - copies);
+        let below = (0..others).map(|_| rng.below(greatest.into()) as u16);
+        case.numbers.extend(below);
+    }
+    rng.shuffle(&mut case.numbers);
+    copied(&case, copies as u32, rng, met)
+}
+
+/// Copies of a number, often 63 of them, that lose to one greater number.
+fn cloned_losers(rng: &mut Rng, met: &mut Met) -> Result<(), String> {
+    let mut case = sound(rng);
+    let winner = number(case.m, rng).max(1);
+    let loser = rng.below(winner.into()) as u16;
+    let most = MOST_COMPETITORS as u64 - 1;
+    let any = rng.between(1, most);
+    case.numbers = vec![loser; *rng.pick(&[most, any]) as usize];
+    case.numbers.push(winner);
+    rng.shuffle(&mut case.numbers);
+    copied(&case, 1, rng, met)
 }
 
 /// No number brings every line to 0.
@@ -217,12 +255,18 @@ fn spoil(case: &mut Case, refusal: u32, rng: &mut Rng) {
     }
 }
 
-fn hold(case: &Case, rng: &mut Rng, met: &mut Met) -> Result<u32, String> {
-    both(case, rng, met).map(|(answer, _)| answer)
+/// A sound case is done, and not refused.
+fn accepted(case: &Case, answer: Result<Done, u32>) -> Result<Done, String> {
+    answer.map_err(|refusal| format!("{case:?}: a sound case gives {refusal}"))
+}
+
+fn done(case: &Case, rng: &mut Rng, met: &mut Met) -> Result<Done, String> {
+    let (answer, _) = both(case, rng, met)?;
+    accepted(case, answer)
 }
 
 /// The answer that both give, and what both leave in the buffer.
-fn both(case: &Case, rng: &mut Rng, met: &mut Met) -> Result<(u32, Vec<u8>), String> {
+fn both(case: &Case, rng: &mut Rng, met: &mut Met) -> Result<(Result<Done, u32>, Vec<u8>), String> {
     let mut competing = seen_from_c::bytes(&case.numbers);
     if case.odd_byte {
         competing.push(rng.byte());
@@ -234,20 +278,24 @@ fn both(case: &Case, rng: &mut Rng, met: &mut Met) -> Result<(u32, Vec<u8>), Str
         |buffer| seen_from_c::settle(case.m, &competing, buffer, case.start),
     )
     .map_err(|what| format!("{case:?}: {what}"))?;
-    met.meet(answer.saturating_sub(100));
-    if answer < 100 {
-        stage_bounds::hold(case.m, &case.numbers, answer, met)?;
+    let answer = settled(answer);
+    match answer {
+        Ok(done) => hold_done(case, done, met)?,
+        Err(refusal) => met.meet(refusal),
     }
     Ok((answer, buffer))
 }
 
-fn accepted(make: fn(&mut Rng) -> Case) -> impl Fn(&mut Rng, &mut Met) -> Result<(), String> {
+/// What any list that is done keeps to.
+fn hold_done(case: &Case, done: Done, met: &mut Met) -> Result<(), String> {
+    stage_bounds::hold(case.m, &case.numbers, done.t, met)?;
+    copies::hold_list(case.m, &case.numbers, done.copies, met)
+}
+
+fn of(make: fn(&mut Rng) -> Case) -> impl Fn(&mut Rng, &mut Met) -> Result<(), String> {
     move |rng, met| {
         let case = make(rng);
-        match hold(&case, rng, met)? {
-            answer if answer < 100 => Ok(()),
-            answer => Err(format!("a sound case gives {answer}")),
-        }
+        done(&case, rng, met).map(|_| ())
     }
 }
 
@@ -258,9 +306,9 @@ fn refused(faults: Vec<u32>) -> impl Fn(&mut Rng, &mut Met) -> Result<(), String
         for &fault in faults.iter().rev() {
             spoil(&mut case, fault, rng);
         }
-        match hold(&case, rng, met)? {
-            answer if answer == 100 + faults[0] => Ok(()),
-            answer => Err(format!("faults {faults:?} give {answer}")),
+        match both(&case, rng, met)?.0 {
+            Err(refusal) if refusal == faults[0] => Ok(()),
+            answer => Err(format!("faults {faults:?} give {answer:?}")),
         }
     }
 }
@@ -280,15 +328,17 @@ fn choices(numbers: &[u32]) -> Vec<Vec<u32>> {
 
 pub fn kinds() -> Vec<Kind> {
     let mut kinds = vec![
-        Kind::new("settling-sound", 60, accepted(sound)),
-        Kind::new("settling-repeated", 20, accepted(repeated)),
-        Kind::new("settling-deep", 20, accepted(deep)),
+        Kind::new("settling-sound", 60, of(sound)),
+        Kind::new("settling-repeated", 20, of(repeated)),
+        Kind::new("settling-deep", 20, of(deep)),
         Kind::new("settling-reaching-intervals", 20, reaching_the_intervals),
         Kind::new("settling-from-another-start", 20, from_another_start),
+        Kind::new("settling-of-cloned-winners", 20, cloned_winners),
+        Kind::new("settling-of-cloned-losers", 10, cloned_losers),
         Kind::new("settling-of-no-number", 5, of_no_number),
         Kind::new("settling-noisy", 40, |rng, met| {
             let case = noisy(rng);
-            hold(&case, rng, met).map(|_| ())
+            both(&case, rng, met).map(|_| ())
         }),
     ];
     kinds.extend((1..=MOST_LINES).map(reaching_the_lines));

@@ -1,6 +1,7 @@
 //! Generated traces through `racktrace`.
 
 use super::conversation::converse;
+use super::copies;
 use super::damage::damaged;
 use super::draft::{any_rule, Draft, Shape};
 use super::expect::shown;
@@ -65,6 +66,7 @@ pub fn meet_all(printed: &[u8], met: &mut Met) -> Result<(), String> {
             let line = shown_line(Some(line));
             return Err(format!("{line} answers {NEVER_LISTED}"));
         }
+        copies::hold_line(line)?;
         met.meet(answer);
     }
     Ok(())

@@ -218,7 +218,7 @@ fn counts_waiters(count: u8, program: &Shared) -> Kind {
         let (mut rack, _) = Rack::load(&file_with(6, 0, &cards));
         (1..=count).for_each(|card| wait(&mut rack, card));
         let answer = hold_expecting(0, &rack, COUNT, &by, met)?;
-        expect(&answer[seen_as_bytes::STATE..], &[0, count, 0, 0, 0])
+        expect(&answer[seen_as_bytes::STATE..], &[0, count, 0, 0, 0, 0])
     })
 }
 
@@ -257,7 +257,7 @@ fn starts_from_the_kept_value(program: &Shared, met: &mut Met) -> Result<(), Str
     rack.last_winner = 6;
     let answer = hold_expecting(0, &rack, ARBITRATE, program, met)?;
     let (next, report) = answer.split_at(seen_as_bytes::STATE);
-    expect(report, &[0, 5, 13, 0, 2])?;
+    expect(report, &[0, 5, 13, 0, 2, 1])?;
     expect(seen_as_bytes::rack(next).kept, 13)
 }
 

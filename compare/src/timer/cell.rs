@@ -86,7 +86,7 @@ impl Cell {
     }
 }
 
-/// The last field of a listing line.
+/// The stages in a listing line.
 fn stages(line: &[u8]) -> u32 {
     u32::from(line[16] - b'0') * 10 + u32::from(line[17] - b'0')
 }

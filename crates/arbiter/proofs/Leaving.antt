@@ -24,7 +24,7 @@ use Rattle.rules.specs.Marks.{Marks, marks}
 use Rattle.lines.specs.declared.Settled.{Settled}
 
 module _ (table : Table) (m : Marks) (hold : Hold) where
-  -- a refusal returns the state given, and winner, lines and stages 0
+  -- a refusal returns the state given, and winner, lines, stages and figure 0
   pub leaves-answered : (n : ℕ) → Leaves (answered (stateOf table m hold) n) (quietReply hold n) m
   leaves-answered n = record { reply = refl; marks-left = refl }
 
@@ -91,6 +91,7 @@ pub leaves-granted : (s : RackState) (w : ℕ) (t : Settled) (waiting : List Boo
       winner = w;
       lines = t .lines;
       stages = t .stages;
+      matches = t .matches;
     })
     (marks waiting counts batch inhibited)
 unfolding wonBy granted

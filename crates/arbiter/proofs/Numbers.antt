@@ -148,8 +148,8 @@ settles s f = rw accepted
     accepted : refusal (linesOf s) (competing s) (s .value) 13 ≡ 0
     accepted =
         let w : Wide s (linesOf s) = wide s f in
-        not-refused (linesOf s) (competing s) (s .value) 13 (w .range .0) (w .range .1) (competing-short s 64)
-        (record { fits = greatest-fits s (linesOf s) w 64; small = f .value-small; enough = omega (arith, w .range) })
+        not-refused (linesOf s) (competing s) (s .value) 13 (w .range .0) (w .range .1)
+        (record { few = competing-short s 64; fits = greatest-fits s (linesOf s) w 64; small = f .value-small; enough = omega (arith, w .range) })
 
 -- and comes to the greatest competing number, whatever the lines carried before
 pub value-greatest : (s : RackState) → Formed s → valueNow s ≡ greatest (competing s)

@@ -1,5 +1,5 @@
 -- What an event tells. It is small: the answer is one of document 01's for an event, the winner a card's number, the settled lines are at most twelve, and
--- so the stages. So two digits, two, four and two hold them. And a refused event tells its refusal alone. Assumes nothing.
+-- so the stages, and at most 64 numbers equal the lines. So two digits, two, four, two and two hold them. And a refused event tells its refusal alone. Assumes nothing.
 use Prim.Native.Nat.{ℕ, _^_, _≤_, _<_}
 use native.Mathlib.Nat.{eq-or-lt-of-le}
 use native.Mathlib.Omega.{arith}
@@ -9,6 +9,7 @@ use mathlib.Core.Path.{_≡_, refl}
 use lib.Dec.{eqb}
 use lib.Pow.{pow-lt}
 use Rattle.arbiter.proofs.Formed.{Formed, formed-of}
+use Rattle.arbiter.proofs.Laws.{competing-short}
 use Rattle.arbiter.proofs.Numbers.{wide, greatest-fits, settles}
 use Rattle.arbiter.proofs.Seen.{Seen, quiet, grant, seen}
 use Rattle.arbiter.specs.Arbitrate.{competing, settlingOf, winnerOf, someLoserFull, grantTo, wonBy, hasWinner, arbitrated, arbitrateRefusal, eventOf}
@@ -17,7 +18,9 @@ use Rattle.arbiter.specs.State.{waits, isClosed, isHolder, isElected, li
 use Rattle.arbiter.specs.declared.Outcome.{Outcome}
 use Rattle.arbiter.specs.declared.RackState.{RackState}
 use Rattle.cards.specs.Table.{inTable}
+use Rattle.lines.proofs.Matches.{equal-most}
 use Rattle.lines.proofs.Stages.{stages-le, settled-greatest}
+use Rattle.lines.specs.Greatest.{greatest}
 
 -- ---- the winner
 
@@ -34,9 +37,10 @@ pub record Small (o : Outcome) : Type 0 where
   pub answer : o .answer ≤ 18
   pub lines : o .lines < 4096
   pub stages : o .stages ≤ 12
+  pub matches : o .matches ≤ 64
 
 refused-small : (s : RackState) (n : ℕ) → n ≤ 18 → Small (answered s n)
-refused-small s n l = record { answer = l; lines = omega arith; stages = omega arith }
+refused-small s n l = record { answer = l; lines = omega arith; stages = omega arith; matches = omega arith }
 
 either : (v : Bool) {x y : Outcome} → Small x → Small y → Small (cond v x y)
 either true p q = p
@@ -79,6 +83,7 @@ module _ (s : RackState) where
         answer = omega arith;
         lines = twelve-lines m _ (lines .range .1) fits;
         stages = omega (arith, stages-le m (competing s) (s .value) fits (f .value-small), lines .range .1);
+        matches = omega (arith, equal-most (greatest (competing s)) (competing s), competing-short s 64);
       })
 
   small-arbitration : (formed : Bool) → wellFormed s ≡ formed → Small (answeredBy (arbitrateRefusal formed s) s (arbitrated s))
@@ -98,7 +103,7 @@ small s letter a =
     (either (eqb letter 82) (small-release s a)
     (refused-small s 18 (omega arith))))
 
--- ---- a refused event returns the state given, with winner, lines and stages 0
+-- ---- a refused event returns the state given, with winner, lines, stages and figure 0
 
 abbrev pub Kept : RackState → Outcome → Type 0
 Kept s o = o .answer ≢ 0 → o ≡ answered s (o .answer)

@@ -8,9 +8,9 @@ use mathlib.Core.Logic.{_⊎_, inl, inr}
 use mathlib.Core.Path.{_≡_, refl, ap, _∙_}
 use borrow.Author.Tests.{ne-eqb}
 use Rattle.arbiter.proofs.Formed.{Formed, formed-of, waiting-below, waiting-card, card-positive, card-small}
-use Rattle.arbiter.proofs.Numbers.{competitor-waits, wide, greatest-more, greatest-fits, settles}
+use Rattle.arbiter.proofs.Numbers.{competitor-waits, wide, greatest-more, greatest-fits, settles, value-greatest}
 use Rattle.arbiter.specs.Arbitrate.{numberOf, preferred, waitsPreferred, somePreferred, competes}
-use Rattle.arbiter.specs.Arbitrate.{competingBelow, competing, settlingOf, winnerOf, wonBy, arbitrated}
+use Rattle.arbiter.specs.Arbitrate.{competingBelow, competing, settlingOf, valueNow, winnerOf, wonBy, arbitrated}
 use Rattle.arbiter.specs.State.{waits, isCard, linesOf, wellFormed}
 use Rattle.arbiter.specs.declared.RackState.{RackState}
 use Rattle.cards.proofs.Below.{le-or-lt, any-not-none, none-any}
@@ -97,6 +97,7 @@ pub record Won (s : RackState) (w : ℕ) : Type 0 where
   pub small : w < 2 ^ s .table .k
   pub positive : 0 < w
   pub best : (a : ℕ) → competes s a ≡ true → numberOf s a ≤ numberOf s w
+  pub shown : valueNow s ≡ numberOf s w
 
 pub won : (s : RackState) → wellFormed s ≡ true → anyBelow 64 (waits s) ≡ true → Won s (winnerOf s)
 won s ok some = go (formed-of s ok) (top s 64)
@@ -118,6 +119,7 @@ won s ok some = go (formed-of s ok) (top s 64)
           small = small;
           positive = card-positive s f w l card;
           best = λ a q. rw (← p) (reach s 64 a (waiting-below s f a (competitor-waits s a q)) q);
+          shown = value-greatest s f ∙ p;
         })
 
 -- so that its settling has a winner

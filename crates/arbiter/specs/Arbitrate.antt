@@ -102,7 +102,7 @@ granted s w =
 
 -- the outcome of a grant to w with these settled lines
 abbrev pub grantTo : RackState → ℕ → Settled → Outcome
-grantTo s w t = record { state = granted s w; answer = 0; winner = w; lines = t .lines; stages = t .stages }
+grantTo s w t = record { state = granted s w; answer = 0; winner = w; lines = t .lines; stages = t .stages; matches = t .matches }
 
 unfoldable pub wonBy : RackState → ℕ → Settled → Outcome
 wonBy s w t = cond (someLoserFull s w) (answered s 16) (grantTo s w t)

@@ -11,9 +11,9 @@ use Rattle.arbiter.specs.declared.RackState.{RackState}
 use Rattle.cards.specs.Table.{inTable}
 use Rattle.rules.specs.Counts.{oneWaits}
 
--- an answer with winner, lines and stages 0
+-- an answer with winner, lines, stages and matches 0
 abbrev pub answered : RackState → ℕ → Outcome
-answered s n = record { state = s; answer = n; winner = 0; lines = 0; stages = 0 }
+answered s n = record { state = s; answer = n; winner = 0; lines = 0; stages = 0; matches = 0 }
 
 -- refused with the number n and the state as given, or, where n is 0, done with this outcome
 unfoldable pub answeredBy : ℕ → RackState → Outcome → Outcome

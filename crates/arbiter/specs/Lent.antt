@@ -45,10 +45,11 @@ replyOf o = record {
   winner = o .winner;
   lines = o .lines;
   stages = o .stages;
+  matches = o .matches;
 }
 
 abbrev pub quietReply : Hold → ℕ → Reply
-quietReply hold n = record { hold = hold; answer = n; winner = 0; lines = 0; stages = 0 }
+quietReply hold n = record { hold = hold; answer = n; winner = 0; lines = 0; stages = 0; matches = 0 }
 
 -- and back
 abbrev pub outcomeFrom : Table → Marks → Reply → Outcome
@@ -58,6 +59,7 @@ outcomeFrom table m r = record {
   winner = r .winner;
   lines = r .lines;
   stages = r .stages;
+  matches = r .matches;
 }
 
 -- the reply and the marks afterwards are those of the outcome o

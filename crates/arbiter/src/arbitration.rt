@@ -66,6 +66,7 @@ pub(crate) fn granted_in(
         winner: w,
         lines: t.lines,
         stages: t.stages,
+        matches: t.matches,
     }
 }
 

@@ -59,15 +59,18 @@ pub struct Reply {
     pub winner: u8,
     pub lines: u16,
     pub stages: u8,
+    pub matches: u8,
 }
 
-// What an event gives: the next state, the answer, and of a grant the winner, the settled lines and the stages.
+// What an event gives: the next state, the answer, and of a grant the winner, the settled lines, the stages and how many
+// competing numbers equal the lines.
 pub struct Outcome {
     pub state: RackState,
     pub answer: u8,
     pub winner: u8,
     pub lines: u16,
     pub stages: u8,
+    pub matches: u8,
 }
 
 // Who is next: the answer and the card, which is 0 where the answer refuses.

@@ -35,7 +35,7 @@ unfolding below.allBelow below.anyBelow below.sumBelow below.tabulate below.rows
     rules.byRule rules.linesBy arbitrate.numberOf rules.goesFirst arbitrate.somePreferred arbitrate.competes
     arbitrate.batchNow arbitrate.inhibitedNow arbitrate.competingBelow arbitrate.valueNow arbitrate.someLoserFull
     arbitrate.losersCounted arbitrate.granted arbitrate.wonBy arbitrate.arbitrated arbitrate.arbitrateRefusal arbitrate.eventOf
-    settle.someFrom settle.refusal
+    settle.someFrom settle.refusal settle.equalTo
     settling.settled settling.stages settling.changes settling.linesAt settling.stage settling.applied settling.outbid settling.trail
     after grants times timesOthers WaitsThrough WaitsAtGrants Q A R
 machine = Unit

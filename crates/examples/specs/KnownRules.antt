@@ -30,11 +30,11 @@ ruled rule events last waiting counts settling =
 unfoldable pub threeCards : ℕ → Table
 threeCards rule = record { k = 3; rule = rule; slots = 0 ∷ 0 ∷ 1 ∷ 0 ∷ 0 ∷ 2 ∷ 3 ∷ replicate 57 0 }
 
--- the settling of a state: the competing numbers and the lines that the rule makes, the lines after each stage, and the stages
+-- the settling of a state: the competing numbers and the lines that the rule makes, the lines after each stage, the stages and how many equal the lines
 unfoldable pub settlingIn : RackState → Known
 unfolding rowFrom
 settlingIn s =
-    rowFrom (s .value) (competing s) (linesOf s) (trail (linesOf s) (competing s) (s .value) (settlingOf s .stages)) (settlingOf s .stages)
+    rowFrom (s .value) (competing s) (linesOf s) (trail (linesOf s) (competing s) (s .value) (settlingOf s .stages)) (settlingOf s .stages) (settlingOf s .matches)
 
 -- A row, with all but its rule and its events worked out by the definitions. Document 01 has lines at 0 before each settling, so the kept value is
 -- put back to 0 here.
@@ -57,7 +57,7 @@ five-done = six-again ++ (A ∷ R 5 ∷ [])
 unfoldable pub knownRules : List Ruled
 unfolding ruled row
 knownRules =
-    ruled 0 all-ask 0 (2 ∷ 5 ∷ 6 ∷ []) (0 ∷ 0 ∷ 0 ∷ []) (row (2 ∷ 5 ∷ 6 ∷ []) 3 (0 ∷ 7 ∷ 6 ∷ []) 2)
-    ∷ ruled 1 six-again 6 (2 ∷ 5 ∷ 6 ∷ []) (0 ∷ 0 ∷ 0 ∷ []) (row (10 ∷ 13 ∷ 6 ∷ []) 4 (0 ∷ 15 ∷ 12 ∷ 13 ∷ []) 3)
-    ∷ ruled 2 five-done 5 (2 ∷ 6 ∷ []) (2 ∷ 1 ∷ []) (row (18 ∷ 14 ∷ []) 6 (0 ∷ 30 ∷ 16 ∷ 18 ∷ []) 3)
+    ruled 0 all-ask 0 (2 ∷ 5 ∷ 6 ∷ []) (0 ∷ 0 ∷ 0 ∷ []) (row (2 ∷ 5 ∷ 6 ∷ []) 3 (0 ∷ 7 ∷ 6 ∷ []) 2 1)
+    ∷ ruled 1 six-again 6 (2 ∷ 5 ∷ 6 ∷ []) (0 ∷ 0 ∷ 0 ∷ []) (row (10 ∷ 13 ∷ 6 ∷ []) 4 (0 ∷ 15 ∷ 12 ∷ 13 ∷ []) 3 1)
+    ∷ ruled 2 five-done 5 (2 ∷ 6 ∷ []) (2 ∷ 1 ∷ []) (row (18 ∷ 14 ∷ []) 6 (0 ∷ 30 ∷ 16 ∷ 18 ∷ []) 3 1)
     ∷ []

@@ -15,8 +15,8 @@ use Rattle.laptop.specs.Words.{words, bytes}
 use Rattle.lines.proofs.Trail.{trail-length}
 use Rattle.lines.proofs.Walk.{Walked, walked-none, next-lines, more, walked-next, walked-end}
 use Rattle.lines.specs.Greatest.{greatest}
-use Rattle.lines.specs.Settle.{refusal}
-use Rattle.lines.specs.Settling.{stage, linesAt, trail}
+use Rattle.lines.specs.Settle.{equalTo, refusal}
+use Rattle.lines.specs.Settling.{stage, linesAt, stages, settled, trail}
 
 -- x as number i of a buffer, as `put_word` writes it
 abbrev pub put : ℕ → ℕ → List ℕ → List ℕ
@@ -59,13 +59,16 @@ module _ (m : ℕ) (ws : List ℕ) (start : ℕ) (first buffer : List ℕ) (t li
       })
 
   -- the stages t, where the next stage changes nothing
-  pub kept-end : (lent : List ℕ) → first ≡ put start 0 lent → next ≡ lines → (t ≡ codeOr 0 m ws start) × (buffer ≡ bytesOr 0 m ws start lent)
-  kept-end lent begun same =
+  pub kept-end : (lent : List ℕ) → first ≡ put start 0 lent → next ≡ lines → (matches code : ℕ) → matches ≡ equalTo lines ws → code ≡ t + 256 * matches
+      → (code ≡ codeOr 0 m ws start) × (buffer ≡ bytesOr 0 m ws start lent)
+  unfolding settled
+  kept-end lent begun same matches code counted coded =
       let least = walked-end m ws start t lines fits small (so-far .walked) next is-next same in
       let rest : drop (2 * suc t) first ≡ drop (2 * suc t) lent =
       ap (drop (2 * suc t)) begun ∙ drop-set-lt (2 * suc t) (set lent 0 (start % 256)) 1 (start / 256 % 256) (omega arith)
-      ∙ drop-set-lt (2 * suc t) lent 0 (start % 256) (omega arith) in (
-        least,
+      ∙ drop-set-lt (2 * suc t) lent 0 (start % 256) (omega arith) in
+      let ends : lines ≡ linesAt m ws start (stages m ws start) = so-far .walked .carried ∙ ap (linesAt m ws start) least in (
+        coded ∙ (λ i. least i + 256 * (counted ∙ ap (λ (x : ℕ). equalTo x ws) ends) i),
         so-far .kept ∙ ap (λ (behind : List ℕ). bytes (trail m ws start t) ++ behind) rest
             ∙ ap (λ (x : ℕ). bytes (trail m ws start x) ++ drop (2 * suc x) lent) least,
       )

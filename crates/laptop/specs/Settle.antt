@@ -4,12 +4,12 @@ use mathlib.Core.List.{List, _++_}
 use mathlib.Core.Path.{_≡_}
 use lib.ListN.{length, drop}
 use Rattle.laptop.specs.Words.{words, bytes}
-use Rattle.lines.specs.Settle.{refusal}
-use Rattle.lines.specs.Settling.{stages, trail}
+use Rattle.lines.specs.Settle.{equalTo, refusal}
+use Rattle.lines.specs.Settling.{stages, settled, trail}
 
--- t, or 100 plus the refusal
+-- t plus 256 times how many numbers equal the settled lines, or 100 plus the refusal
 abbrev pub codeOr : ℕ → ℕ → List ℕ → ℕ → ℕ
-codeOr zero m numbers start = stages m numbers start
+codeOr zero m numbers start = stages m numbers start + 256 * equalTo (settled m numbers start) numbers
 codeOr (suc refused) m numbers start = 100 + suc refused
 
 -- the lines after stages 0 to t, two bytes for each, and the rest as it was; a refusal writes nothing

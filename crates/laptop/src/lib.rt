@@ -12,8 +12,8 @@ mod settling;
 mod table;
 mod words;
 
-// Settles m lines, with the competing numbers and the stage entries as bytes: t, or 100 plus the refusal. A start is cut to 16 bits only once it is
-// known to fit the lines.
+// Settles m lines, with the competing numbers and the stage entries as bytes: t plus 256 times how many numbers equal the settled lines, or 100 plus the
+// refusal. A start is cut to 16 bits only once it is known to fit the lines.
 fn settle_bytes(m: u8, numbers: &[u8], stages: &mut [u8], start: u32) -> u32
     ensures { λ r. ⌜ SettlesBytes m (now (numbers .entry)) start (now (stages .entry)) r (now (stages .exit)) ⌝ }
 {
@@ -24,7 +24,8 @@ fn settle_bytes(m: u8, numbers: &[u8], stages: &mut [u8], start: u32) -> u32
     run(m, numbers, start as u16, stages) as u32
 }
 
-// Settles m lines, which carry `start`, for C: t, or 100 plus the refusal. Any m over 12 is refused, and so none is cut to a byte.
+// Settles m lines, which carry `start`, for C: t plus 256 times how many numbers equal the settled lines, or 100 plus the refusal. Any m over 12 is
+// refused, and so none is cut to a byte.
 #[no_mangle]
 pub extern "C" fn rack_settle(m: u32, numbers: &[u8], stages: &mut [u8], start: u32) -> u32
     ensures { λ r. ⌜ SettlesBytes m (now (numbers .entry)) start (now (stages .entry)) r (now (stages .exit)) ⌝ }

@@ -1,11 +1,11 @@
 // Settling from the bytes as lent: each number is read where it is used, and each stage is written as it comes.
-ghost use Prim.Native.Nat.{ℕ, _/_, _<_, _^_};
+ghost use Prim.Native.Nat.{ℕ, _+_, _*_, _/_, _≤_, _<_, _^_};
 ghost use mathlib.Core.Path.{_≡_};
 ghost use lib.ListN.{length};
 ghost use Rattle.laptop.specs.Settle.{codeOr, bytesOr};
 ghost use Rattle.laptop.specs.Words.{words};
 ghost use Rattle.lines.specs.Greatest.{greatest};
-ghost use Rattle.lines.specs.Settle.{Accepted, refusal, someFrom};
+ghost use Rattle.lines.specs.Settle.{Accepted, equalTo, refusal, someFrom};
 ghost use Rattle.lines.specs.Settling.{stage};
 use super::words::put_word;
 use super::words::word_at;
@@ -55,9 +55,28 @@ fn next_stage(numbers: &[u8], lines: u16) -> u16
     joined
 }
 
-// Stage after stage from the lines `start`, until two neighbouring ones agree: t. At most m stages change a line, so the loop takes at most m + 1
-// turns.
-pub(crate) fn run(m: u8, numbers: &[u8], start: u16, stages: &mut [u8]) -> u8
+// How many numbers equal the lines.
+fn matching(numbers: &[u8], lines: u16) -> u8
+    requires { ⌜ length (words (now numbers)) ≤ 64 ⌝ }
+    ensures { λ r. ⌜ r ≡ equalTo lines (words (now (numbers .entry))) ⌝ }
+{
+    let mut count: u8 = 0;
+    for i in 0..numbers.len() / 2 {
+        count = count + ((word_at(numbers, i) == lines) as u8);
+    }
+    count
+}
+
+// What C is told of a settling that is done.
+fn code_of(t: u8, matches: u8) -> u16
+    ensures { λ r. ⌜ r ≡ t + 256 * matches ⌝ }
+{
+    (t as u16) + 256 * (matches as u16)
+}
+
+// Stage after stage from the lines `start`, until two neighbouring ones agree: t, and 256 times how many numbers equal the lines. At most m stages
+// change a line, so the loop takes at most m + 1 turns.
+pub(crate) fn run(m: u8, numbers: &[u8], start: u16, stages: &mut [u8]) -> u16
     requires { ⌜ Accepted m (words (now numbers)) start (length (now stages) / 2) ⌝ }
     ensures { λ r.
         ⌜ (r ≡ codeOr 0 m (words (now (numbers .entry))) start)
@@ -69,7 +88,8 @@ pub(crate) fn run(m: u8, numbers: &[u8], start: u16, stages: &mut [u8]) -> u8
     loop {
         let next = next_stage(numbers, lines);
         if next == lines {
-            break t;
+            let matches = matching(numbers, lines);
+            break code_of(t, matches);
         }
         t += 1;
         lines = next;

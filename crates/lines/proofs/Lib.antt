@@ -15,3 +15,4 @@ pub mod Intervals
 pub mod Silent
 pub mod Smear
 pub mod Determined
+pub mod Matches

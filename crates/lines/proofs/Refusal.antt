@@ -147,6 +147,7 @@ accepted m numbers start room e =
     let below = after (ltb 64 (length numbers)) 21 _ counted in
     let roomy = after (someFrom (2 ^ m) numbers) 22 _ below in
     record {
+      few = ltb-false 64 (length numbers) (passed (ltb 64 (length numbers)) 21 _ counted);
       fits = none-from (2 ^ m) numbers (pow-pos m) (passed (someFrom (2 ^ m) numbers) 22 _ below);
       small = omega (arith, ltb-false (2 ^ m - 1) start (passed (ltb (2 ^ m - 1) start) 24 _ (after (leb room m) 23 _ roomy)), pow-pos m);
       enough = leb-false room m (passed (leb room m) 23 _ roomy);
@@ -158,14 +159,14 @@ unfolding refusal
 start-fits m numbers start room e = omega (arith, accepted m numbers start room e .small, pow-mono (at-most m _ e))
 
 -- and the other way round: where each demand is met nothing is refused
-pub not-refused : (m : ℕ) (numbers : List ℕ) (start room : ℕ) → 0 < m → m ≤ 12 → length numbers ≤ 64 → Accepted m numbers start room
+pub not-refused : (m : ℕ) (numbers : List ℕ) (start room : ℕ) → 0 < m → m ≤ 12 → Accepted m numbers start room
     → refusal m numbers start room ≡ 0
 unfolding refusal
-not-refused m numbers start room some most few ok =
+not-refused m numbers start room some most ok =
     rw (
       ne-eqb m 0 (omega arith),
       le-ltb 12 m most,
-      le-ltb 64 (length numbers) few,
+      le-ltb 64 (length numbers) (ok .few),
       all-below (2 ^ m) numbers (ok .fits),
       lt-leb room m (ok .enough),
       le-ltb (2 ^ m - 1) start (omega (arith, ok .small)),
@@ -178,6 +179,6 @@ module _ (m : ℕ) (numbers : List ℕ) (start : ℕ) (buffer : List ℕ) where
   settles-done r last none ran = record { result = rw none (ran .result); left = rw none (ran .left) }
 
   pub settles-refused : (answer : ℕ) → answer ≡ refusal m numbers start (length buffer) → (answer ≡ 0 → ⊥)
-      → Settles m numbers start buffer (record { answer = answer; lines = 0; stages = 0 }) buffer
+      → Settles m numbers start buffer (record { answer = answer; lines = 0; stages = 0; matches = 0 }) buffer
   settles-refused zero e some = absurd (some refl)
   settles-refused (suc refused) e some = record { result = rw (← e); left = rw (← e) }

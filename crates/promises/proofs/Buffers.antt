@@ -1,5 +1,5 @@
 -- Lent memory: what each contract leaves in it, by the cases of the definition that it cites. Assumes nothing.
-use Prim.Native.Nat.{ℕ, zero, suc, _*_, _/_, _≤_, _<_}
+use Prim.Native.Nat.{ℕ, zero, suc, _*_, _/_, _%_, _≤_, _<_}
 use native.Mathlib.Omega.{arith}
 use mathlib.Core.Bool.{Bool, true, false, cond}
 use mathlib.Core.List.{List, [], _++_}
@@ -61,7 +61,7 @@ behind text buffer last n long e = ap (drop n) e ∙ drop-at text (drop n buffer
 record Settling (buffer last : List ℕ) (r : Settled) : Type 0 where
   kept : r .answer ≢ 0 → last ≡ buffer
   beyond : drop (suc (r .stages)) last ≡ drop (suc (r .stages)) buffer
-  zeros : r .answer ≢ 0 → (r .lines ≡ 0) × (r .stages ≡ 0)
+  zeros : r .answer ≢ 0 → (r .lines ≡ 0) × (r .stages ≡ 0) × (r .matches ≡ 0)
 
 by-refusal : (m : ℕ) (numbers : List ℕ) (start : ℕ) (buffer last : List ℕ) (r : Settled) (n : ℕ)
     → r ≡ settledOr n m numbers start → last ≡ writtenOr n m numbers start buffer → Settling buffer last r
@@ -73,7 +73,7 @@ by-refusal m numbers start buffer last r zero p q = record {
 by-refusal m numbers start buffer last r (suc n) p q = record {
   kept = λ refused. q;
   beyond = ap (drop (suc (r .stages))) q;
-  zeros = λ refused. (ap (λ (s : Settled). s .lines) p, ap (λ (s : Settled). s .stages) p);
+  zeros = λ refused. (ap (λ (s : Settled). s .lines) p, ap (λ (s : Settled). s .stages) p, ap (λ (s : Settled). s .matches) p);
 }
 
 settling : {m : ℕ} {numbers : List ℕ} {start : ℕ} {buffer last : List ℕ} {r : Settled} → Settles m numbers start buffer r last → Settling buffer last r
@@ -83,27 +83,28 @@ settling {m} {numbers} {start} {buffer} {last} {r} s =
 -- ---- settling for C
 
 -- t is at most m, which is at most 12
-few-stages : (m : ℕ) (numbers : List ℕ) (start room : ℕ) → refusal m numbers start room ≡ 0 → stages m numbers start ≤ 12
+pub few-stages : (m : ℕ) (numbers : List ℕ) (start room : ℕ) → refusal m numbers start room ≡ 0 → stages m numbers start ≤ 12
 unfolding refusal
 few-stages m numbers start room none =
     let ok = accepted m numbers start room none in
     omega (arith, stages-le m numbers start (ok .fits) (ok .small), at-most m _ none)
 
 record SettlingBytes (buffer last : List ℕ) (r : ℕ) : Type 0 where
-  kept : 12 < r → last ≡ buffer
-  beyond : drop (2 * suc r) last ≡ drop (2 * suc r) buffer
+  kept : 12 < r % 256 → last ≡ buffer
+  beyond : drop (2 * suc (r % 256)) last ≡ drop (2 * suc (r % 256)) buffer
 
 by-code : (m : ℕ) (numbers : List ℕ) (start room : ℕ) (buffer last : List ℕ) (r n : ℕ) → refusal m numbers start room ≡ n
     → r ≡ codeOr n m numbers start → last ≡ bytesOr n m numbers start buffer → SettlingBytes buffer last r
 by-code m numbers start room buffer last r zero none p q =
     let written = trail m numbers start (stages m numbers start) in
+    let t : r % 256 ≡ stages m numbers start = omega (arith, p, few-stages m numbers start room none) in
     record {
-      kept = λ more. absurd (omega (arith, few-stages m numbers start room none));
+      kept = λ more. absurd (omega (arith, t, few-stages m numbers start room none));
       beyond =
-          rw p
+          rw t
           (behind (bytes written) buffer last _ (bytes-length written ∙ ap (λ (k : ℕ). 2 * k) (trail-length m numbers start (stages m numbers start))) q);
     }
-by-code m numbers start room buffer last r (suc n) some p q = record { kept = λ more. q; beyond = ap (drop (2 * suc r)) q }
+by-code m numbers start room buffer last r (suc n) some p q = record { kept = λ more. q; beyond = ap (drop (2 * suc (r % 256))) q }
 
 settling-bytes : {m : ℕ} {numbers : List ℕ} {start : ℕ} {buffer last : List ℕ} {r : ℕ} → SettlesBytes m numbers start buffer r last
     → SettlingBytes buffer last r

@@ -1,5 +1,5 @@
 -- The demands proved: fairness (Sums to Fairness) and the same of a listing, states, waiting counts (OthersLeft, Counts), the round trip of a table, the
--- most stages, the waiting report, and lent memory.
+-- most stages, the waiting report, lent memory, and cloned cards.
 pub mod Sums
 pub mod Turns
 pub mod Potentials
@@ -20,3 +20,4 @@ pub mod Slowest
 pub mod GrantsCounted
 pub mod WaitingReport
 pub mod Buffers
+pub mod Clones

@@ -24,7 +24,7 @@ use Rattle.lines.specs.Line.{line}
 use Rattle.lines.specs.Settling.{stages}
 use Rattle.promises.specs.Settling.{AllBelow, SettledAlike, StagesWithin, StagesFromAny, LeastWithin, LeastFromAny, NobodyWithin, LeastNobody, ArbitrationWithin}
 
-greatest-below : (m : ℕ) (numbers : List ℕ) → AllBelow m numbers → greatest numbers < 2 ^ m
+pub greatest-below : (m : ℕ) (numbers : List ℕ) → AllBelow m numbers → greatest numbers < 2 ^ m
 unfolding greatest
 greatest-below m [] below = pow-pos m
 greatest-below m (number ∷ others) below =

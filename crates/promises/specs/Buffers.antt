@@ -1,6 +1,6 @@
 -- Lent memory, as statements about the contracts themselves: no refusal writes to it, and what is written stands at its front. A contract is `Learnt`,
 -- as the toolchain reads it off the source, and `ended` has its parameters. Assumes nothing.
-use Prim.Native.Nat.{ℕ, suc, _*_, _≤_}
+use Prim.Native.Nat.{ℕ, suc, _*_, _%_, _≤_}
 use mathlib.Core.List.{List}
 use mathlib.Core.Logic.{_≢_}
 use mathlib.Core.Path.{_≡_}
@@ -25,8 +25,8 @@ pub record NoRefusalWrites : Type 0 where
   pub settle : KeptWhere lines.settle.Reads.Learnt (atExit lines.settle.ended) (λ r. r .answer ≢ 0)
   pub save-table : KeptWhere cards.save_table.Reads.Learnt (atExit cards.save_table.ended) (λ r. r .answer ≢ 0)
   pub save : KeptWhere rack.save.Reads.Learnt (atExit rack.save.ended) (λ r. r .answer ≢ 0)
-  -- 100 plus the refusal
-  pub rack-settle : KeptWhere laptop.rack_settle.Reads.Learnt (atExit laptop.rack_settle.ended) (λ r. 100 ≤ r)
+  -- t, or 100 plus the refusal, is what 256 leaves of the code
+  pub rack-settle : KeptWhere laptop.rack_settle.Reads.Learnt (atExit laptop.rack_settle.ended) (λ r. 100 ≤ r % 256)
   pub rack-table : KeptWhere laptop.rack_table.Reads.Learnt (atExit laptop.rack_table.ended) (λ r. r ≢ 0)
   pub request-in : KeptWhere arbiter.«request_in».Reads.Learnt (atExit arbiter.«request_in».ended) (λ r. r .answer ≢ 0)
   pub release-in : KeptWhere arbiter.«release_in».Reads.Learnt (atExit arbiter.«release_in».ended) (λ r. r .answer ≢ 0)
@@ -43,7 +43,7 @@ pub record NothingBeyond : Type 0 where
   pub save-table : Beyond cards.save_table.Reads.Learnt (λ p. now (p .1 .0)) (λ r. r .len)
   pub save : Beyond rack.save.Reads.Learnt (λ p. now (p .1 .0)) (λ r. r .len)
   -- two bytes for each entry
-  pub rack-settle : Beyond laptop.rack_settle.Reads.Learnt (λ p. now (p .1 .1 .0)) (λ r. 2 * suc r)
+  pub rack-settle : Beyond laptop.rack_settle.Reads.Learnt (λ p. now (p .1 .1 .0)) (λ r. 2 * suc (r % 256))
   pub rack-table : Beyond laptop.rack_table.Reads.Learnt (λ p. now (p .1 .0)) (λ r. 66)
   pub run : Beyond trace.run.Reads.Learnt (λ p. now (p .1 .1 .0)) (λ r. r .written)
   pub row-text : Beyond report.row_text.Reads.Learnt (λ p. now (p .1 .1 .1 .0)) (λ r. r)
@@ -51,8 +51,8 @@ pub record NothingBeyond : Type 0 where
 abbrev pub GivesWhere : {K A R E : Type 0} → (K → A → R → E → Type 0) → (R → Type 0) → (R → Type 0) → Type 0
 GivesWhere {K} {A} {R} {E} Admits Refuses Says = (κ : K) (a : A) (r : R) (e : E) → Admits κ a r e → Refuses r → Says r
 
--- A refused settling returns lines 0 and stages 0, a refused save length 0.
+-- A refused settling returns lines, stages and figure 0, a refused save length 0.
 pub record RefusedGivesZeros : Type 0 where
-  pub settle : GivesWhere lines.settle.Reads.Learnt (λ r. r .answer ≢ 0) (λ r. (r .lines ≡ 0) × (r .stages ≡ 0))
+  pub settle : GivesWhere lines.settle.Reads.Learnt (λ r. r .answer ≢ 0) (λ r. (r .lines ≡ 0) × (r .stages ≡ 0) × (r .matches ≡ 0))
   pub save-table : GivesWhere cards.save_table.Reads.Learnt (λ r. r .answer ≢ 0) (λ r. r .len ≡ 0)
   pub save : GivesWhere rack.save.Reads.Learnt (λ r. r .answer ≢ 0) (λ r. r .len ≡ 0)

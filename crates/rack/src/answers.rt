@@ -40,5 +40,6 @@ pub(crate) fn outcome_of(
         winner: r.winner,
         lines: r.lines,
         stages: r.stages,
+        matches: r.matches,
     }
 }

@@ -158,6 +158,7 @@ pub fn refused(s: RackState, number: u8) -> Outcome
         winner: 0,
         lines: 0,
         stages: 0,
+        matches: 0,
     }
 }
 

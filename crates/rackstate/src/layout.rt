@@ -36,8 +36,8 @@ pub(crate) const AFTER: usize = WAITERS + 1;
 // The state, a letter and a number.
 pub(crate) const RECORD: usize = AFTER + 2;
 
-// The state, and five bytes about the event or the save.
-const ANSWER: usize = AFTER + 5;
+// The state, and six bytes about the event or the save.
+const ANSWER: usize = AFTER + 6;
 
 // The 64 bytes of a record from at on.
 fn numbers_at(bytes: &[u8; RECORD], at: usize) -> [u8; 64]

@@ -19,26 +19,27 @@
 //        with 18
 //   330  the number of the event, or how many bytes are lent to the save; each of them holds EE before (in hex)
 //
-// A record out has 334 bytes, and after a save those that were lent. Its first 329 are the state that the event returns, or the state that was
+// A record out has 335 bytes, and after a save those that were lent. Its first 329 are the state that the event returns, or the state that was
 // saved or asked, laid out as above: yes is 1, a bus with a card elected is 2, the holder of a free bus is 0, and so is the elected card where there is
 // none. Then, for an event:
 //   329  answer
 //   330  winner
 //   331  settled lines, low byte first, 2 bytes
 //   333  stages
+//   334  how many competing numbers equal the settled lines
 // for a save:
 //   329  answer
 //   330  length, low byte first, 2 bytes
-//   332  zeros, 2 bytes
-//   334  the bytes that were lent, as the save left them
+//   332  zeros, 3 bytes
+//   335  the bytes that were lent, as the save left them
 // for how many cards wait:
 //   329  answer
 //   330  how many
-//   331  zeros, 3 bytes
+//   331  zeros, 4 bytes
 // and for who is next:
 //   329  answer
 //   330  the card that would win
-//   331  zeros, 3 bytes
+//   331  zeros, 4 bytes
 //
 // Each record is answered before the next is read. The program ends where the input ends or a record is short.
 use arbiter::RackState;
@@ -63,6 +64,7 @@ fn answer_event(state: RackState, letter: u8, number: u8) -> bool {
     out[AFTER + 2] = low_byte(outcome.lines as usize);
     out[AFTER + 3] = high_byte(outcome.lines as usize);
     out[AFTER + 4] = outcome.stages;
+    out[AFTER + 5] = outcome.matches;
     io::write_all(STDOUT_FILENO, &out)
 }
 

@@ -23,7 +23,7 @@ fn table_bytes(file: &mut [u8]) -> usize {
 
 // A line that stands for no event.
 fn print_alone(a: u8, b: u8, c: u8, d: u8, answer: u8) {
-    let line = trace::text(a, b, c, d, answer, 0, 0, 0);
+    let line = trace::text(a, b, c, d, answer, 0, 0, 0, 0);
     io::write_all(STDOUT_FILENO, &line);
 }
 
@@ -92,7 +92,7 @@ fn take_turn(t: Turn, input: &mut [u8], output: &mut [u8]) -> Turn {
 // A proved loop has to end, and nothing says that the input does: the loop counts its turns down from a number that no run uses up.
 fn answer_all(s: RackState) {
     let mut input = [0u8; 16380];
-    let mut output = [0u8; 62244];
+    let mut output = [0u8; 72072];
     let mut t = Turn {
         state: s,
         held: 0,

@@ -118,7 +118,7 @@ four-digits x small =
 
 -- the line that answers a well-formed line tells its event and its outcome
 pub line-tells : (trace : List ℕ) (n : ℕ) (o : Outcome) → isLine trace n ≡ true → Small o → o .winner < 64
-    → Tells (textIn trace n (lineIn trace n) (o .answer) (o .winner) (o .lines) (o .stages)) 0 (eventAt trace n) o
+    → Tells (textIn trace n (lineIn trace n) (o .answer) (o .winner) (o .lines) (o .stages) (o .matches)) 0 (eventAt trace n) o
 unfolding textIn lineText textOf
 line-tells trace n o ok small below =
     rw (line-fine trace n ok)
@@ -129,4 +129,5 @@ line-tells trace n o ok small below =
       winner = two-digits (o .winner) (omega arith);
       lines = four-digits (o .lines) (omega (arith, small .lines));
       stages = two-digits (o .stages) (omega (arith, small .stages));
+      matches = two-digits (o .matches) (omega (arith, small .matches));
     })

@@ -93,22 +93,22 @@ module _ (s : RackState) (xs ys : List ℕ) (n : ℕ) (whole : length xs ≡ 5 *
 
 -- ---- the same of runs, by the contract of `run`
 
-size-more : (l : Listing) (line : Listed) (b : Bool) → length (l .text) ≡ 19 * l .lines → length (line .text) ≡ 19
-    → length (cond b l (withLine l line) .text) ≡ 19 * cond b l (withLine l line) .lines
+size-more : (l : Listing) (line : Listed) (b : Bool) → length (l .text) ≡ 22 * l .lines → length (line .text) ≡ 22
+    → length (cond b l (withLine l line) .text) ≡ 22 * cond b l (withLine l line) .lines
 size-more l line true h e = h
 size-more l line false h e = rw (length-append, h, e) (omega arith)
 
-pub listing-size : (s : RackState) (trace : List ℕ) (n : ℕ) → length (listing s trace n .text) ≡ 19 * listing s trace n .lines
+pub listing-size : (s : RackState) (trace : List ℕ) (n : ℕ) → length (listing s trace n .text) ≡ 22 * listing s trace n .lines
 unfolding listing lineAt
 listing-size s trace zero = refl
-listing-size s trace (suc n) = size-more (listing s trace n) _ (listing s trace n .ended) (listing-size s trace n) (text-length trace n _ _ _ _ _)
+listing-size s trace (suc n) = size-more (listing s trace n) _ (listing s trace n .ended) (listing-size s trace n) (text-length trace n _ _ _ _ _ _)
 
 -- the whole lines of a trace, and a buffer that has room for them
 abbrev pub wholeLines : List ℕ → ℕ
 wholeLines trace = length trace / 5
 
 abbrev pub Room : List ℕ → List ℕ → Type 0
-Room trace buffer = 19 * wholeLines trace ≤ length buffer
+Room trace buffer = 22 * wholeLines trace ≤ length buffer
 
 -- what a run made: the bytes at the front of its buffer
 abbrev pub made : Ran → List ℕ → List ℕ
@@ -122,7 +122,7 @@ pub by-contract : (s : RackState) (trace buffer : List ℕ) (r : Ran) (last : Li
 by-contract s trace buffer r last n e room lists =
     let all : linesWithin trace buffer ≡ n = all-lines trace buffer room ∙ e in
     let result : r ≡ ranOf (listing s trace n) = rw (← all) (lists .result) in
-    let left : last ≡ listing s trace n .text ++ drop (19 * listing s trace n .lines) buffer = rw (← all) (lists .left) in
+    let left : last ≡ listing s trace n .text ++ drop (22 * listing s trace n .lines) buffer = rw (← all) (lists .left) in
     (result, rw (result, left) (take-at (listing s trace n .text) _ _ (listing-size s trace n)))
 
 -- a run on the front, one on the back from the state that the first left, and one on the whole
@@ -150,7 +150,7 @@ module _ (s : RackState) (xs ys : List ℕ) (n : ℕ) (whole : length xs ≡ 5 *
       let l = listing s xs n in
       let k = listing state ys (wholeLines ys) in
       let read = 5 * l .lines + 5 * k .lines in
-      let written = 19 * l .lines + 19 * k .lines in
+      let written = 22 * l .lines + 22 * k .lines in
       let sums = ran-as (followedBy l k) (k .state) read written (k .ended) refl (omega arith) (omega arith) refl in
       (both .1 ∙ rw (one, first .1, second .1), both .0 ∙ rw (one, first .0, second .0) (sym sums))
 

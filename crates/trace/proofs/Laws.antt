@@ -57,15 +57,15 @@ line-after head line buffer now start n e whole =
 
 -- ---- one line
 
-line-length : (a b c d : ℕ) (line : Line) (answer winner lines stages : ℕ) → length (lineText a b c d line answer winner lines stages) ≡ 19
+line-length : (a b c d : ℕ) (line : Line) (answer winner lines stages matches : ℕ) → length (lineText a b c d line answer winner lines stages matches) ≡ 22
 unfolding lineText textOf
-line-length a b c d (Request n) answer winner lines stages = refl
-line-length a b c d Arbitrate answer winner lines stages = refl
-line-length a b c d (Release n) answer winner lines stages = refl
-line-length a b c d Malformed answer winner lines stages = refl
+line-length a b c d (Request n) answer winner lines stages matches = refl
+line-length a b c d Arbitrate answer winner lines stages matches = refl
+line-length a b c d (Release n) answer winner lines stages matches = refl
+line-length a b c d Malformed answer winner lines stages matches = refl
 
-pub text-length : (trace : List ℕ) (n : ℕ) (line : Line) (answer winner lines stages : ℕ)
-    → length (textIn trace n line answer winner lines stages) ≡ 19
+pub text-length : (trace : List ℕ) (n : ℕ) (line : Line) (answer winner lines stages matches : ℕ)
+    → length (textIn trace n line answer winner lines stages matches) ≡ 22
 unfolding textIn
 text-length trace n = line-length _ _ _ _
 
@@ -99,7 +99,7 @@ ended-stays s trace n zero h = rw add-zero
 ended-stays s trace n (suc m) h = rw (add-suc, ended-stays s trace n m h, h)
 
 pub ran-as : (l : Listing) (state : RackState) (read written : ℕ) (ended : Bool)
-    → state ≡ l .state → read ≡ 5 * l .lines → written ≡ 19 * l .lines → ended ≡ l .ended
+    → state ≡ l .state → read ≡ 5 * l .lines → written ≡ 22 * l .lines → ended ≡ l .ended
     → record { state = state; read = read; written = written; ended = ended } ≡ ranOf l
 ran-as l state read written ended a b c d = rw (a, b, c, d)
 
@@ -108,8 +108,8 @@ pub record Going (s : RackState) (trace buffer : List ℕ) (n : ℕ) (state : Ra
   pub at : state ≡ listing s trace n .state
   pub running : listing s trace n .ended ≡ false
   pub count : listing s trace n .lines ≡ n
-  pub size : length (listing s trace n .text) ≡ 19 * n
-  pub left : now ≡ listing s trace n .text ++ drop (19 * n) buffer
+  pub size : length (listing s trace n .text) ≡ 22 * n
+  pub left : now ≡ listing s trace n .text ++ drop (22 * n) buffer
 
 pub going-none : (s : RackState) (trace buffer : List ℕ) → Going s trace buffer 0 s buffer
 unfolding listing
@@ -123,45 +123,45 @@ module _ (s : RackState) (trace buffer : List ℕ) (n : ℕ) (state : RackState)
   more : listing s trace (n + 1) ≡ withLine (listing s trace n) line
   more = rw (← same-line) (listing-more s trace n (g .running))
 
-  nineteen : length (line .text) ≡ 19
+  whole-line : length (line .text) ≡ 22
   unfolding lineAt
-  nineteen = rw is (text-length trace n _ _ _ _ _)
+  whole-line = rw is (text-length trace n _ _ _ _ _ _)
 
   abbrev pub Last : List ℕ
-  Last = take (19 * n) now ++ (line .text ++ drop (19 * n + 19) now)
+  Last = take (22 * n) now ++ (line .text ++ drop (22 * n + 22) now)
 
-  written : Last ≡ listing s trace (n + 1) .text ++ drop (19 * n + 19) buffer
-  written = rw more (line-after (listing s trace n .text) (line .text) buffer now (19 * n) 19 (g .size) (g .left))
+  written : Last ≡ listing s trace (n + 1) .text ++ drop (22 * n + 22) buffer
+  written = rw more (line-after (listing s trace n .text) (line .text) buffer now (22 * n) 22 (g .size) (g .left))
 
   pub going-more : line .ended ≡ false → Going s trace buffer (n + 1) (line .state) Last
   going-more h =
-      let twice : 19 * n + 19 ≡ 19 * (n + 1) = omega arith in
+      let twice : 22 * n + 22 ≡ 22 * (n + 1) = omega arith in
       record {
         at = rw more;
         running = rw more h;
         count = rw more (omega (arith, g .count));
-        size = rw (more, length-append, g .size, nineteen) twice;
+        size = rw (more, length-append, g .size, whole-line) twice;
         left = rw (← twice) written;
       }
 
-  pub ended-here : (whole : ℕ) → n < whole → line .ended ≡ true → (read written' : ℕ) → read ≡ 5 * n + 5 → written' ≡ 19 * n + 19
+  pub ended-here : (whole : ℕ) → n < whole → line .ended ≡ true → (read written' : ℕ) → read ≡ 5 * n + 5 → written' ≡ 22 * n + 22
       → (record { state = line .state; read = read; written = written'; ended = true } ≡ ranOf (listing s trace whole))
-      × (Last ≡ listing s trace whole .text ++ drop (19 * listing s trace whole .lines) buffer)
+      × (Last ≡ listing s trace whole .text ++ drop (22 * listing s trace whole .lines) buffer)
   ended-here whole below h read written' er ew =
       let far : whole ≡ (n + 1) + (whole - (n + 1)) = omega arith in
       let end : listing s trace (n + 1) .ended ≡ true = rw more h in
       let stays : listing s trace whole ≡ listing s trace (n + 1) = rw far (ended-stays s trace (n + 1) (whole - (n + 1)) end) in
       let count : listing s trace (n + 1) .lines ≡ n + 1 = rw more (omega (arith, g .count)) in
-      let twice : 19 * n + 19 ≡ 19 * (n + 1) = omega arith in
+      let twice : 22 * n + 22 ≡ 22 * (n + 1) = omega arith in
       rw stays (
         ran-as (listing s trace (n + 1)) (line .state) read written' true (rw more) (rw count (omega arith)) (rw count (omega arith)) (sym end),
         rw (count, ← twice) written,
       )
 
 pub all-gone : (s : RackState) (trace buffer : List ℕ) (n whole : ℕ) (state : RackState) (now : List ℕ) → n ≡ whole → Going s trace buffer n state now
-    → (read written : ℕ) → read ≡ 5 * whole → written ≡ 19 * whole
+    → (read written : ℕ) → read ≡ 5 * whole → written ≡ 22 * whole
     → (record { state = state; read = read; written = written; ended = false } ≡ ranOf (listing s trace whole))
-    × (now ≡ listing s trace whole .text ++ drop (19 * listing s trace whole .lines) buffer)
+    × (now ≡ listing s trace whole .text ++ drop (22 * listing s trace whole .lines) buffer)
 all-gone s trace buffer n whole state now e g read written er ew =
     let count : listing s trace whole .lines ≡ whole = rw (← e) (g .count) in (
       ran-as (listing s trace whole) state read written false (rw (← e) (g .at)) (rw count er) (rw count ew) (rw (← e) (sym (g .running))),
@@ -179,7 +179,7 @@ module _ (table : Table) (m : Marks) (hold : Hold) (trace : List ℕ) (n : ℕ) 
   there = stateOf table m′ (r .hold)
 
   abbrev pub told : List ℕ
-  told = textIn trace n line (r .answer) (r .winner) (r .lines) (r .stages)
+  told = textIn trace n line (r .answer) (r .winner) (r .lines) (r .stages) (r .matches)
 
   as-listed : lineAt here trace n ≡ record { state = there; text = told; ended = isMalformed line }
   unfolding lineAt
@@ -190,13 +190,13 @@ module _ (table : Table) (m : Marks) (hold : Hold) (trace : List ℕ) (n : ℕ) 
 
   module _ (s : RackState) (buffer now : List ℕ) (g : Going s trace buffer n here now) where
     abbrev pub after : List ℕ
-    after = take (19 * n) now ++ (told ++ drop (19 * n + 19) now)
+    after = take (22 * n) now ++ (told ++ drop (22 * n + 22) now)
 
     pub one-further : isMalformed line ≡ false → Going s trace buffer (n + 1) there after
     one-further fine = going-more s trace buffer n here now g (record { state = there; text = told; ended = isMalformed line }) (sym as-listed) fine
 
-    pub at-end : (whole : ℕ) → n < whole → isMalformed line ≡ true → (read written : ℕ) → read ≡ 5 * n + 5 → written ≡ 19 * n + 19
+    pub at-end : (whole : ℕ) → n < whole → isMalformed line ≡ true → (read written : ℕ) → read ≡ 5 * n + 5 → written ≡ 22 * n + 22
         → (record { state = there; read = read; written = written; ended = true } ≡ ranOf (listing s trace whole))
-        × (after ≡ listing s trace whole .text ++ drop (19 * listing s trace whole .lines) buffer)
+        × (after ≡ listing s trace whole .text ++ drop (22 * listing s trace whole .lines) buffer)
     at-end = λ whole below bad.
         ended-here s trace buffer n here now g (record { state = there; text = told; ended = isMalformed line }) (sym as-listed) whole below bad

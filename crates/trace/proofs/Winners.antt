@@ -61,14 +61,14 @@ module _ (s : RackState) (trace : List ℕ) where
   pub record So (n : ℕ) (l : Listing) : Type 0 where
     pub ended : l .ended ≡ not (fine n)
     pub state : l .state ≡ stateAt n
-    pub size : length (l .text) ≡ 19 * l .lines
+    pub size : length (l .text) ≡ 22 * l .lines
     pub count : fine n ≡ true → l .lines ≡ n
     pub events : eventsIn trace 0 (l .lines) ≡ eventsIn trace 0 n
 
-  one-line : (n : ℕ) (l : Listing) → length (l .text) ≡ 19 * l .lines
-      → length (withLine l (lineAt (l .state) trace n) .text) ≡ 19 * withLine l (lineAt (l .state) trace n) .lines
+  one-line : (n : ℕ) (l : Listing) → length (l .text) ≡ 22 * l .lines
+      → length (withLine l (lineAt (l .state) trace n) .text) ≡ 22 * withLine l (lineAt (l .state) trace n) .lines
   unfolding lineAt
-  one-line n l e = rw (length-append, e, text-length trace n _ _ _ _ _) (omega arith)
+  one-line n l e = rw (length-append, e, text-length trace n _ _ _ _ _ _) (omega arith)
 
   module _ (n : ℕ) (l : Listing) (h : So n l) where
     -- nothing after a malformed line
@@ -138,31 +138,31 @@ module _ (s : RackState) (trace : List ℕ) where
   lineOf k = lineAt (made k .state) trace k .text
 
   -- its bytes
-  byte : (n k j : ℕ) → k < n → fine k ≡ true → j < 19 → byteAt (made n .text) (19 * k + j) ≡ byteAt (lineOf k) j
+  byte : (n k j : ℕ) → k < n → fine k ≡ true → j < 22 → byteAt (made n .text) (22 * k + j) ≡ byteAt (lineOf k) j
   byte zero k j l ok m = absurd (omega arith)
   byte (suc n) k j l ok m = by-case (fine n) refl (eq-or-lt-of-le (le-of-suc-le-suc l)) (λ less. byte n k j less ok m)
     where
-      by-case : (b : Bool) → fine n ≡ b → (k ≡ n) ⊎ (k < n) → (k < n → byteAt (made n .text) (19 * k + j) ≡ byteAt (lineOf k) j)
-          → byteAt (made (suc n) .text) (19 * k + j) ≡ byteAt (lineOf k) j
+      by-case : (b : Bool) → fine n ≡ b → (k ≡ n) ⊎ (k < n) → (k < n → byteAt (made n .text) (22 * k + j) ≡ byteAt (lineOf k) j)
+          → byteAt (made (suc n) .text) (22 * k + j) ≡ byteAt (lineOf k) j
       by-case true on (inl e) before =
-          rw (next-is n true on, e) (byte-back (made n .text) (lineOf n) (19 * n + j) j (omega (arith, so n .size, so n .count on)))
+          rw (next-is n true on, e) (byte-back (made n .text) (lineOf n) (22 * n + j) j (omega (arith, so n .size, so n .count on)))
       by-case true on (inr less) before =
           rw (next-is n true on)
-          (List·getD-append (made n .text) (lineOf n) 0 (19 * k + j) (omega (arith, so n .size, so n .count on)) ∙ before less)
+          (List·getD-append (made n .text) (lineOf n) 0 (22 * k + j) (omega (arith, so n .size, so n .count on)) ∙ before less)
       by-case false bad (inl e) before = absurd (true≢false (sym (rw e at ok) ∙ bad))
       by-case false bad (inr less) before = rw (next-is n false bad) (before less)
 
   module _ (n k : ℕ) (l : k < n) (ok : fine k ≡ true) where
-    two : (j : ℕ) → j + 1 < 19 → twoAt (made n .text) (19 * k + j) ≡ twoAt (lineOf k) j
+    two : (j : ℕ) → j + 1 < 22 → twoAt (made n .text) (22 * k + j) ≡ twoAt (lineOf k) j
     two j m =
-        let next : 19 * k + j + 1 ≡ 19 * k + (j + 1) = omega arith in
+        let next : 22 * k + j + 1 ≡ 22 * k + (j + 1) = omega arith in
         rw (next, byte n k j l ok (omega arith), byte n k (j + 1) l ok m)
 
     -- what a line tells by itself it tells in the listing
     carried : (e : Event) (o : Outcome) → Tells (lineOf k) 0 e o → Tells (made n .text) k e o
     carried e o t =
-        let first : 19 * k ≡ 19 * k + 0 = omega arith in
-        let rest : 19 * k + 11 + 2 ≡ 19 * k + 13 = omega arith in
+        let first : 22 * k ≡ 22 * k + 0 = omega arith in
+        let rest : 22 * k + 11 + 2 ≡ 22 * k + 13 = omega arith in
         record {
           letter = rw (first, byte n k 0 l ok (omega arith)) (t .letter);
           number = two 2 (omega arith) ∙ t .number;
@@ -170,6 +170,7 @@ module _ (s : RackState) (trace : List ℕ) where
           winner = two 8 (omega arith) ∙ t .winner;
           lines = rw (rest, two 11 (omega arith), two 13 (omega arith)) (t .lines);
           stages = two 16 (omega arith) ∙ t .stages;
+          matches = two 19 (omega arith) ∙ t .matches;
         }
 
     -- a well-formed line is told with its event's outcome, in the state that the events before it left
@@ -184,7 +185,7 @@ module _ (s : RackState) (trace : List ℕ) where
     -- a malformed line has dashes in the place of its event, and names no winner
     pub line-dashed : isLine trace k ≡ false → letterAt (made n .text) k ≡ 45
     unfolding lineAt lineText textIn textOf
-    line-dashed bad = let first : 19 * k ≡ 19 * k + 0 = omega arith in rw (first, byte n k 0 l ok (omega arith), line-malformed trace k bad)
+    line-dashed bad = let first : 22 * k ≡ 22 * k + 0 = omega arith in rw (first, byte n k 0 l ok (omega arith), line-malformed trace k bad)
 
     pub line-none : isLine trace k ≡ false → winnerAt (made n .text) k ≡ 0
     unfolding lineAt lineOutcome textIn lineText textOf

@@ -54,25 +54,29 @@ unfoldable pub eventsIn : List ℕ → ℕ → ℕ → List Event
 eventsIn trace from zero = []
 eventsIn trace from (suc count) = eventsIn trace from count ++ eventOn trace (from + count)
 
--- ---- a listing, 19 bytes a line: the event's four characters, the answer at 5, the winner at 8, the settled lines at 11, the stages at 16
+-- ---- a listing, 22 bytes a line: the event's four characters, the answer at 5, the winner at 8, the settled lines at 11, the stages at 16, how many
+-- numbers equal the lines at 19
 
 abbrev pub letterAt : List ℕ → ℕ → ℕ
-letterAt text n = byteAt text (19 * n)
+letterAt text n = byteAt text (22 * n)
 
 abbrev pub numberAt : List ℕ → ℕ → ℕ
-numberAt text n = twoAt text (19 * n + 2)
+numberAt text n = twoAt text (22 * n + 2)
 
 abbrev pub answerAt : List ℕ → ℕ → ℕ
-answerAt text n = twoAt text (19 * n + 5)
+answerAt text n = twoAt text (22 * n + 5)
 
 abbrev pub winnerAt : List ℕ → ℕ → ℕ
-winnerAt text n = twoAt text (19 * n + 8)
+winnerAt text n = twoAt text (22 * n + 8)
 
 abbrev pub valueAt : List ℕ → ℕ → ℕ
-valueAt text n = fourAt text (19 * n + 11)
+valueAt text n = fourAt text (22 * n + 11)
 
 abbrev pub stagesAt : List ℕ → ℕ → ℕ
-stagesAt text n = twoAt text (19 * n + 16)
+stagesAt text n = twoAt text (22 * n + 16)
+
+abbrev pub matchesAt : List ℕ → ℕ → ℕ
+matchesAt text n = twoAt text (22 * n + 19)
 
 -- line n tells the event and its outcome
 pub record Tells (text : List ℕ) (n : ℕ) (e : Event) (o : Outcome) : Type 0 where
@@ -82,6 +86,7 @@ pub record Tells (text : List ℕ) (n : ℕ) (e : Event) (o : Outcome) : Type 0 
   pub winner : winnerAt text n ≡ o .winner
   pub lines : valueAt text n ≡ o .lines
   pub stages : stagesAt text n ≡ o .stages
+  pub matches : matchesAt text n ≡ o .matches
 
 -- the winner of line n; none where it is 00
 abbrev pub winnerOn : List ℕ → ℕ → List ℕ

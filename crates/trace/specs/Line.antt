@@ -48,16 +48,18 @@ lineOutcome s Malformed = answered s 18
 abbrev pub lastDigit : ℕ → ℕ
 lastDigit x = x % 10 + 48
 
--- the event's four characters, the answer (2 digits), winner (2), settled lines (4) and stages (2), parted by one space, and a newline
-unfoldable pub textOf : ℕ → ℕ → ℕ → ℕ → ℕ → ℕ → ℕ → ℕ → List ℕ
-textOf a b c d answer winner lines stages =
+-- the event's four characters, the answer (2 digits), winner (2), settled lines (4), stages (2) and how many competing numbers equal the lines (2),
+-- parted by one space, and a newline
+unfoldable pub textOf : ℕ → ℕ → ℕ → ℕ → ℕ → ℕ → ℕ → ℕ → ℕ → List ℕ
+textOf a b c d answer winner lines stages matches =
     a ∷ b ∷ c ∷ d ∷ 32
     ∷ lastDigit (answer / 10) ∷ lastDigit answer ∷ 32
     ∷ lastDigit (winner / 10) ∷ lastDigit winner ∷ 32
     ∷ lastDigit (lines / 1000) ∷ lastDigit (lines / 100) ∷ lastDigit (lines / 10) ∷ lastDigit lines ∷ 32
-    ∷ lastDigit (stages / 10) ∷ lastDigit stages ∷ 10 ∷ []
+    ∷ lastDigit (stages / 10) ∷ lastDigit stages ∷ 32
+    ∷ lastDigit (matches / 10) ∷ lastDigit matches ∷ 10 ∷ []
 
 -- a malformed line prints ---- in the place of its characters
-unfoldable pub lineText : ℕ → ℕ → ℕ → ℕ → Line → ℕ → ℕ → ℕ → ℕ → List ℕ
-lineText a b c d line answer winner lines stages =
-    cond (isMalformed line) (textOf 45 45 45 45 answer winner lines stages) (textOf a b c d answer winner lines stages)
+unfoldable pub lineText : ℕ → ℕ → ℕ → ℕ → Line → ℕ → ℕ → ℕ → ℕ → ℕ → List ℕ
+lineText a b c d line answer winner lines stages matches =
+    cond (isMalformed line) (textOf 45 45 45 45 answer winner lines stages matches) (textOf a b c d answer winner lines stages matches)

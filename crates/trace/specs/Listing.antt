@@ -16,7 +16,7 @@ lineIn trace n =
     lineOf (getD trace (5 * n) 0) (getD trace (5 * n + 1) 0) (getD trace (5 * n + 2) 0) (getD trace (5 * n + 3) 0) (getD trace (5 * n + 4) 0)
 
 -- the text that answers it
-unfoldable pub textIn : List ℕ → ℕ → Line → ℕ → ℕ → ℕ → ℕ → List ℕ
+unfoldable pub textIn : List ℕ → ℕ → Line → ℕ → ℕ → ℕ → ℕ → ℕ → List ℕ
 textIn trace n = lineText (getD trace (5 * n) 0) (getD trace (5 * n + 1) 0) (getD trace (5 * n + 2) 0) (getD trace (5 * n + 3) 0)
 
 -- what one line makes: the state after it, its text, and whether it ends the listing
@@ -28,7 +28,7 @@ pub record Listed : Type 0 where
 abbrev pub listedOf : List ℕ → ℕ → Line → Outcome → Listed
 listedOf trace n line o = record {
   state = o .state;
-  text = textIn trace n line (o .answer) (o .winner) (o .lines) (o .stages);
+  text = textIn trace n line (o .answer) (o .winner) (o .lines) (o .stages) (o .matches);
   ended = isMalformed line;
 }
 
@@ -58,15 +58,15 @@ listing s trace (suc n) =
 
 -- the whole lines of a trace for which a buffer has room
 abbrev pub linesWithin : List ℕ → List ℕ → ℕ
-linesWithin trace buffer = min (length trace / 5) (length buffer / 19)
+linesWithin trace buffer = min (length trace / 5) (length buffer / 22)
 
 abbrev pub ranOf : Listing → Ran
-ranOf l = record { state = l .state; read = 5 * l .lines; written = 19 * l .lines; ended = l .ended }
+ranOf l = record { state = l .state; read = 5 * l .lines; written = 22 * l .lines; ended = l .ended }
 
 -- the answer and the buffer's last contents: the listing at its front
 pub record Lists (s : RackState) (trace buffer : List ℕ) (r : Ran) (last : List ℕ) : Type 0 where
   pub result : r ≡ ranOf (listing s trace (linesWithin trace buffer))
-  pub left : last ≡ listing s trace (linesWithin trace buffer) .text ++ drop (19 * listing s trace (linesWithin trace buffer) .lines) buffer
+  pub left : last ≡ listing s trace (linesWithin trace buffer) .text ++ drop (22 * listing s trace (linesWithin trace buffer) .lines) buffer
 
 -- one listing and then another, which goes on from the state that the first one left; a listing that ended is the last
 abbrev pub followedBy : Listing → Listing → Listing

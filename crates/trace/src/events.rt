@@ -21,6 +21,7 @@ fn malformed(hold: Hold) -> Reply
         winner: 0,
         lines: 0,
         stages: 0,
+        matches: 0,
     }
 }
 

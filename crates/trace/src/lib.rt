@@ -55,14 +55,24 @@ pub fn parse(letter: u8, gap: u8, tens: u8, ones: u8, end: u8) -> Line
     }
 }
 
-// The 19 bytes of a line of the listing. Most lines name no winner, and the rest of such a line is zeros.
-pub fn text(a: u8, b: u8, c: u8, d: u8, answer: u8, winner: u8, lines: u16, stages: u8) -> [u8; 19]
-    ensures { λ r. ⌜ r ≡ textOf a b c d answer winner lines stages ⌝ }
+// The 22 bytes of a line of the listing. Most lines name no winner, and the rest of such a line is zeros.
+pub fn text(
+    a: u8,
+    b: u8,
+    c: u8,
+    d: u8,
+    answer: u8,
+    winner: u8,
+    lines: u16,
+    stages: u8,
+    matches: u8,
+) -> [u8; 22]
+    ensures { λ r. ⌜ r ≡ textOf a b c d answer winner lines stages matches ⌝ }
 {
-    if (winner == 0) & (lines == 0) & (stages == 0) {
+    if (winner == 0) & (lines == 0) & (stages == 0) & (matches == 0) {
         return quiet_text(a, b, c, d, answer);
     }
-    full_text(a, b, c, d, answer, winner, lines, stages)
+    full_text(a, b, c, d, answer, winner, lines, stages, matches)
 }
 
 // The lesser of two numbers.
@@ -91,7 +101,7 @@ fn left_by(state: RackState, read: usize, written: usize, ended: bool) -> Ran
 pub fn run(s: RackState, input: &[u8], output: &mut [u8]) -> Ran
     ensures { λ r. ⌜ Lists s (now (input .entry)) (now (output .entry)) r (now (output .exit)) ⌝ }
 {
-    let lines = least(input.len() / 5, output.len() / 19);
+    let lines = least(input.len() / 5, output.len() / 22);
     let formed = rack::well_formed(s);
     let table = s.table;
     let slots = table.slots;
@@ -125,9 +135,9 @@ pub fn run(s: RackState, input: &[u8], output: &mut [u8]) -> Ran
         hold = next;
         if is_malformed(line) {
             let state = state_of(table, waiting, counts, batch, inhibited, hold);
-            return left_by(state, 5 * n + 5, 19 * n + 19, true);
+            return left_by(state, 5 * n + 5, 22 * n + 22, true);
         }
     }
     let state = state_of(table, waiting, counts, batch, inhibited, hold);
-    left_by(state, 5 * lines, 19 * lines, false)
+    left_by(state, 5 * lines, 22 * lines, false)
 }

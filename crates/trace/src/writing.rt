@@ -1,4 +1,4 @@
-// A line of the listing: its digits, its 19 bytes, and its place in the output.
+// A line of the listing: its digits, its 22 bytes, and its place in the output.
 ghost use Prim.Native.Nat.{_+_, _*_, _≤_, _<_};
 ghost use mathlib.Core.List.{_++_};
 ghost use mathlib.Core.Path.{_≡_};
@@ -17,11 +17,11 @@ pub(crate) fn last_digit(x: u16) -> u8
     (x % 10) as u8 + 48
 }
 
-// A line of the listing whose winner, lines and stages are 0.
-pub(crate) fn quiet_text(a: u8, b: u8, c: u8, d: u8, answer: u8) -> [u8; 19]
-    ensures { λ r. ⌜ r ≡ textOf a b c d answer 0 0 0 ⌝ }
+// A line of the listing whose winner, lines, stages and figure are 0.
+pub(crate) fn quiet_text(a: u8, b: u8, c: u8, d: u8, answer: u8) -> [u8; 22]
+    ensures { λ r. ⌜ r ≡ textOf a b c d answer 0 0 0 0 ⌝ }
 {
-    let mut line = *b"     00 00 0000 00\n";
+    let mut line = *b"     00 00 0000 00 00\n";
     line[0] = a;
     line[1] = b;
     line[2] = c;
@@ -41,8 +41,9 @@ pub(crate) fn full_text(
     winner: u8,
     lines: u16,
     stages: u8,
-) -> [u8; 19]
-    ensures { λ r. ⌜ r ≡ textOf a b c d answer winner lines stages ⌝ }
+    matches: u8,
+) -> [u8; 22]
+    ensures { λ r. ⌜ r ≡ textOf a b c d answer winner lines stages matches ⌝ }
 {
     let answer10 = last_digit((answer / 10) as u16);
     let answer1 = last_digit(answer as u16);
@@ -54,6 +55,8 @@ pub(crate) fn full_text(
     let lines1 = last_digit(lines);
     let stages10 = last_digit((stages / 10) as u16);
     let stages1 = last_digit(stages as u16);
+    let matches10 = last_digit((matches / 10) as u16);
+    let matches1 = last_digit(matches as u16);
     [
         a,
         b,
@@ -73,13 +76,16 @@ pub(crate) fn full_text(
         b' ',
         stages10,
         stages1,
+        b' ',
+        matches10,
+        matches1,
         b'\n',
     ]
 }
 
 // The line of the listing that answers a line of the trace: its four characters, or ---- where it is malformed.
-pub(crate) fn line_text(a: u8, b: u8, c: u8, d: u8, line: Line, r: Reply) -> [u8; 19]
-    ensures { λ t. ⌜ t ≡ lineText a b c d line (r .answer) (r .winner) (r .lines) (r .stages) ⌝ }
+pub(crate) fn line_text(a: u8, b: u8, c: u8, d: u8, line: Line, r: Reply) -> [u8; 22]
+    ensures { λ t. ⌜ t ≡ lineText a b c d line (r .answer) (r .winner) (r .lines) (r .stages) (r .matches) ⌝ }
 {
     if is_malformed(line) {
         return text(
@@ -91,29 +97,30 @@ pub(crate) fn line_text(a: u8, b: u8, c: u8, d: u8, line: Line, r: Reply) -> [u8
             r.winner,
             r.lines,
             r.stages,
+            r.matches,
         );
     }
-    text(a, b, c, d, r.answer, r.winner, r.lines, r.stages)
+    text(a, b, c, d, r.answer, r.winner, r.lines, r.stages, r.matches)
 }
 
 // Copies a line to the front of buf.
-pub(crate) fn put_front(src: [u8; 19], buf: &mut [u8])
-    requires { ⌜ 19 ≤ length (now buf) ⌝ }
-    ensures { λ _. ⌜ now (buf .exit) ≡ (src ++ drop 19 (now (buf .entry))) ⌝ }
+pub(crate) fn put_front(src: [u8; 22], buf: &mut [u8])
+    requires { ⌜ 22 ≤ length (now buf) ⌝ }
+    ensures { λ _. ⌜ now (buf .exit) ≡ (src ++ drop 22 (now (buf .entry))) ⌝ }
 {
-    for i in 0..19usize {
+    for i in 0..22usize {
         buf[i] = src[i];
     }
 }
 
 // Writes the answer to line n of the input to line n of the output.
 pub(crate) fn put_line(input: &[u8], n: usize, line: Line, r: Reply, output: &mut [u8])
-    requires { ⌜ (5 * n + 4 < length (now input)) × (19 * n + 19 ≤ length (now output)) ⌝ }
-    ensures { λ _. ⌜ now (output .exit) ≡ (take (19 * n) (now (output .entry))
-        ++ (textIn (now (input .entry)) n line (r .answer) (r .winner) (r .lines) (r .stages) ++ drop (19 * n + 19) (now (output .entry)))) ⌝ }
+    requires { ⌜ (5 * n + 4 < length (now input)) × (22 * n + 22 ≤ length (now output)) ⌝ }
+    ensures { λ _. ⌜ now (output .exit) ≡ (take (22 * n) (now (output .entry))
+        ++ (textIn (now (input .entry)) n line (r .answer) (r .winner) (r .lines) (r .stages) (r .matches) ++ drop (22 * n + 22) (now (output .entry)))) ⌝ }
 {
     let at = 5 * n;
-    let to = 19 * n;
+    let to = 22 * n;
     let bytes = line_text(
         input[at],
         input[at + 1],

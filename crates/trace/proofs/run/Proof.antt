@@ -18,7 +18,7 @@ use Rattle.trace.specs.Listing.{linesWithin}
 
 abbrev Inv-loop : tie.InvT-loop
 Inv-loop input output₀ lines formed table slots waiting₀ counts₀ batch₀ inhibited₀ hold₀ n₀ output waiting counts batch inhibited hold n =
-    (n ≤ lines) × (5 * lines ≤ length input) × (19 * lines ≤ length output₀) × (length output ≡ length output₀)
+    (n ≤ lines) × (5 * lines ≤ length input) × (22 * lines ≤ length output₀) × (length output ≡ length output₀)
     × Going (stateOf table (marks waiting₀ counts₀ batch₀ inhibited₀) hold₀) input output₀ n
     (stateOf table (marks waiting counts batch inhibited) hold) output
     × (formed ≡ wellFormed (stateOf table (marks waiting counts batch inhibited) hold))
@@ -30,8 +30,8 @@ loop-holds : tie.Need-loop-holds Inv-loop μ-loop
 loop-holds c =
     let least = c .before .before .before .before .before .before .before in
     let given = least .before .before .before .args in
-    let in-trace = min-le-left (length (now (given .input)) / 5) (length (now (given .output)) / 19) in
-    let in-room = min-le-right (length (now (given .input)) / 5) (length (now (given .output)) / 19) in
+    let in-trace = min-le-left (length (now (given .input)) / 5) (length (now (given .output)) / 22) in
+    let in-room = min-le-right (length (now (given .input)) / 5) (length (now (given .output)) / 22) in
     let formed = c .before .before .before .before .before .before .well-formed .ensures in
     (omega arith, omega (arith, least .least .ensures), omega (arith, least .least .ensures), refl, going-none _ _ _, formed)
 
@@ -83,7 +83,7 @@ returns c =
     let end = at-end (s .table) (marked at) (head at .loop .hold) (now (given at .args .input)) (n at)
     (read at .line-at .result) (read at .line-at .ensures) _ _ (put .before .before .answer-line .ensures)
     s (now (given at .args .output)) (head at .loop .output) (head at .loop .inv .4) whole below (sym (ends at) ∙ c .before .before .if1 .taken)
-    (5 * n at + 5) (19 * n at + 19) refl refl in
+    (5 * n at + 5) (22 * n at + 22) refl refl in
     record { result = rw (c .left-by .ensures, c .before .state-of .ensures) (end .0); left = rw (put .put-line .ensures) (end .1) }
 
 loop-again : tie.Need-loop-again Inv-loop μ-loop
@@ -114,7 +114,7 @@ returns-2 c =
     let whole = linesWithin (now (given .input)) (now (given .output)) in
     let end = all-gone (given .s) (now (given .input)) (now (given .output)) (at-loop .loop .n) whole _ (at-loop .loop .output)
     (omega (arith, least .least .ensures, at-loop .loop .inv .0, c .before .before .loop-test .left)) (at-loop .loop .inv .4)
-    (5 * least .least .result) (19 * least .least .result) (omega (arith, least .least .ensures)) (omega (arith, least .least .ensures)) in
+    (5 * least .least .result) (22 * least .least .result) (omega (arith, least .least .ensures)) (omega (arith, least .least .ensures)) in
     record { result = rw (c .left-by2 .ensures, c .before .state-of2 .ensures) (end .0); left = end .1 }
 
 pub run-spec : {M : Type 1} → statement M

@@ -11,9 +11,10 @@ returns c =
     let zeros = simp and-eq-true-iff at (c .before .if1 .taken) in
     rw (
       c .quiet-text .ensures,
-      eqb-true (given .winner) 0 (zeros .0 .0),
-      eqb-true (given .lines) 0 (zeros .0 .1),
-      eqb-true (given .stages) 0 (zeros .1),
+      eqb-true (given .winner) 0 (zeros .0 .0 .0),
+      eqb-true (given .lines) 0 (zeros .0 .0 .1),
+      eqb-true (given .stages) 0 (zeros .0 .1),
+      eqb-true (given .matches) 0 (zeros .1),
     )
 
 returns-2 : tie.Need-returns-2

@@ -90,12 +90,16 @@ loop-again c =
     kept-next (m at) (ws at) (start at) (first at) (head .stages) (head .t) (head .lines) (entry at .pre .fits) (entry at .pre .small) (head .inv)
     (at .next-stage .result) (is-next at) _ (c .before .before .put-word2 .ensures) (room at) (other .if1 .left)
 
+matching-requires : tie.Need-matching-requires Inv-loop μ-loop
+matching-requires c κs = entry (c .before) .pre .few
+
 returns : tie.Need-returns Inv-loop μ-loop
 returns c =
-    let at = c .before in
+    let at = c .before .before .before in
     let head = at .before .loop in
     kept-end (m at) (ws at) (start at) (first at) (head .stages) (head .t) (head .lines) (entry at .pre .fits) (entry at .pre .small) (head .inv)
-    (at .next-stage .result) (is-next at) (lent at) (begun at) (c .if1 .taken)
+    (at .next-stage .result) (is-next at) (lent at) (begun at) (c .before .before .if1 .taken)
+    (c .before .matching .result) (c .code-of .result) (c .before .matching .ensures) (c .code-of .ensures)
 
 pub run-spec : {M : Type 1} → statement M
 run-spec =
@@ -106,10 +110,12 @@ run-spec =
     put-word-requires
     loop-holds
     (λ c κs. tt)
+    matching-requires
+    (λ c κs. tt)
     add-t
     cast-put-word
     put-word-requires-2
     loop-less
     loop-again
-    (λ c. c .before .before .loop .inv .sized ∙ long (c .before))
+    (λ c. c .before .before .before .before .loop .inv .sized ∙ long (c .before .before .before))
     returns)

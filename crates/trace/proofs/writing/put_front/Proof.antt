@@ -13,19 +13,19 @@ use Rattle.trace.proofs.writing.put_front.Statement.{statement}
 use Rattle.trace.proofs.writing.put_front.Tie as tie
 
 abbrev Inv-loop : tie.InvT-loop
-Inv-loop buf₀ src i₀ buf i = (i ≤ 19) × (length buf ≡ length buf₀) × (buf ≡ take i src ++ drop i buf₀)
+Inv-loop buf₀ src i₀ buf i = (i ≤ 22) × (length buf ≡ length buf₀) × (buf ≡ take i src ++ drop i buf₀)
 
 abbrev μ-loop : tie.MeasureT-loop
-μ-loop buf₀ src i₀ buf i = 19 - i
+μ-loop buf₀ src i₀ buf i = 22 - i
 
-nineteen : (c : tie.Start Inv-loop μ-loop) → length (c .args .t1) ≡ 19
-nineteen c = search needs
+whole-line : (c : tie.Start Inv-loop μ-loop) → length (c .args .t1) ≡ 22
+whole-line c = search needs
 
 loop-again : tie.Need-loop-again Inv-loop μ-loop
 loop-again c =
     let inv = c .before .loop .inv in
     let start = c .before .before in
-    let size = nineteen start in (
+    let size = whole-line start in (
       omega arith,
       simp length-set (inv .1),
       rw (inv .2, add-one) (copy-next (start .args .t1) (now (start .args .buf)) (c .before .loop .i) _ (omega arith) (omega arith) refl),
@@ -35,7 +35,7 @@ returns : tie.Need-returns Inv-loop μ-loop
 returns c =
     let inv = c .before .loop .inv in
     let start = c .before .before in
-    let size = nineteen start in
+    let size = whole-line start in
     inv .2 ∙ rw size at (copy-done (start .args .t1) (now (start .args .buf)) (c .before .loop .i) (omega arith))
 
 pub put-front-spec : {M : Type 1} → statement M

@@ -18,7 +18,7 @@ returns c =
     let put = c .before .before in
     let text = put .before .before .line-text in
     let given = put .before .before .before .before .before .before .before .before .before .args in
-    rw (put .put-front .ensures) (part-put (given .output .now) (text .result) (19 * given .n) 19 ∙ rw (text .ensures))
+    rw (put .put-front .ensures) (part-put (given .output .now) (text .result) (22 * given .n) 22 ∙ rw (text .ensures))
 
 pub put-line-spec : {M : Type 1} → statement M
 put-line-spec =
