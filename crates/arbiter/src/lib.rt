@@ -1,5 +1,6 @@
 // The arbiter: a state, and its events on marks that the caller lends. A run over many events keeps its marks in one place and finds out once whether
 // the state is well formed, since events keep it so. Each event is told that, and refuses with 17 where it is told no.
+#![tactic(auto)]
 ghost use Rattle.std.specs.Prelude.{◌≡◌};
 ghost use Rattle.arbiter.specs.Lent.{state_of, Requests, Releases, Arbitrates};
 ghost use Rattle.arbiter.specs.Next.{Looks};
@@ -17,7 +18,7 @@ mod marks;
 mod sets;
 
 // The bus is free, held by the card of that number, or held by the first with the second elected to follow.
-#[derive(Drop)]
+#[derive(Clone, Copy)]
 pub enum Bus {
     Free,
     Held(u8),
@@ -26,7 +27,7 @@ pub enum Bus {
 
 // The state: the table, who waits, the waiting counts, the batch (rule 3), who is inhibited (rule 4), the last winner (0 for none yet), the bus,
 // how many cards wait, and the value that the lines settled to last, which they still carry (0 for none yet). Arrays go by arbitration number.
-#[derive(Drop)]
+#[derive(Clone, Copy)]
 pub struct RackState {
     pub table: Table,
     pub waiting: [bool; 64],
@@ -41,7 +42,7 @@ pub struct RackState {
 
 // The last winner, the bus, the number of waiting cards and the kept value: what is left of a state beside its table and its marks. A run copies it at
 // every line.
-#[derive(Drop)]
+#[derive(Clone, Copy)]
 pub struct Hold {
     pub last: u8,
     pub bus: Bus,
@@ -50,7 +51,7 @@ pub struct Hold {
 }
 
 // What an event on lent marks gives: an outcome without the table and the marks.
-#[derive(Drop)]
+#[derive(Clone, Copy)]
 pub struct Reply {
     pub hold: Hold,
     pub answer: u8,
@@ -62,7 +63,7 @@ pub struct Reply {
 
 // What an event gives: the next state, the answer, and of a grant the winner, the settled lines, the stages and how many
 // competing numbers equal the lines.
-#[derive(Drop)]
+#[derive(Clone, Copy)]
 pub struct Outcome {
     pub state: RackState,
     pub answer: u8,
@@ -73,7 +74,7 @@ pub struct Outcome {
 }
 
 // Who is next: the answer and the card, which is 0 where the answer refuses.
-#[derive(Drop)]
+#[derive(Clone, Copy)]
 pub struct NextWinner {
     pub answer: u8,
     pub winner: u8,

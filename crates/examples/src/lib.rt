@@ -1,1 +1,2 @@
 // Worked examples alone: see specs/ and proofs/.
+#![tactic(auto)]

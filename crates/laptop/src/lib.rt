@@ -1,4 +1,5 @@
 // Entries for the commissioning laptop's C program: numbers and byte slices only.
+#![tactic(auto)]
 ghost use Rattle.std.specs.Prelude.{◌+◌, ◌≡◌};
 ghost use Rattle.cardfile.specs.Format.{load_table_of};
 ghost use Rattle.laptop.specs.Settle.{SettlesBytes};

@@ -1,1 +1,2 @@
 // A definition and a lemma alone: see specs/ and proofs/.
+#![tactic(auto)]

@@ -3,36 +3,37 @@ use mathlib.Core.Path.{refl}
 use Rattle.one_result.proofs.Laws.{one_result}
 use Rattle.one_result.specs.Determined.{Determined}
 use Rattle.rack.proofs as rack
+use Rattle.rack.specs.contracts as contracts
 
-pub well_formed_determined : Determined rack.well_formed.ended rack.well_formed.Reads.Learnt
+pub well_formed_determined : Determined contracts.well_formed.ended rack.well_formed.Reads.Learnt
 well_formed_determined κ a x y b c p q = (one_result p q, refl)
 
-pub waiting_count_determined : Determined rack.waiting_count.ended rack.waiting_count.Reads.Learnt
+pub waiting_count_determined : Determined contracts.waiting_count.ended rack.waiting_count.Reads.Learnt
 waiting_count_determined κ a x y b c p q = (one_result p q, refl)
 
-pub fresh_determined : Determined rack.fresh.ended rack.fresh.Reads.Learnt
+pub fresh_determined : Determined contracts.fresh.ended rack.fresh.Reads.Learnt
 fresh_determined κ a x y b c p q = (one_result p q, refl)
 
-pub request_determined : Determined rack.request.ended rack.request.Reads.Learnt
+pub request_determined : Determined contracts.request.ended rack.request.Reads.Learnt
 request_determined κ a x y b c p q = (one_result p q, refl)
 
-pub release_determined : Determined rack.release.ended rack.release.Reads.Learnt
+pub release_determined : Determined contracts.release.ended rack.release.Reads.Learnt
 release_determined κ a x y b c p q = (one_result p q, refl)
 
-pub arbitrate_determined : Determined rack.arbitrate.ended rack.arbitrate.Reads.Learnt
+pub arbitrate_determined : Determined contracts.arbitrate.ended rack.arbitrate.Reads.Learnt
 arbitrate_determined κ a x y b c p q = (one_result p q, refl)
 
-pub refused_determined : Determined rack.refused.ended rack.refused.Reads.Learnt
+pub refused_determined : Determined contracts.refused.ended rack.refused.Reads.Learnt
 refused_determined κ a x y b c p q = (one_result p q, refl)
 
-pub event_determined : Determined rack.event.ended rack.event.Reads.Learnt
+pub event_determined : Determined contracts.event.ended rack.event.Reads.Learnt
 event_determined κ a x y b c p q = (one_result p q, refl)
 
-pub load_determined : Determined rack.load.ended rack.load.Reads.Learnt
+pub load_determined : Determined contracts.load.ended rack.load.Reads.Learnt
 load_determined κ a x y b c p q = (one_result p q, refl)
 
-pub save_determined : Determined rack.save.ended rack.save.Reads.Learnt
+pub save_determined : Determined contracts.save.ended rack.save.Reads.Learnt
 save_determined κ a x y b c p q = (one_result p.0 q.0, λ i. (tt, (one_result p.1 q.1 i, tt)))
 
-pub next_winner_determined : Determined rack.next_winner.ended rack.next_winner.Reads.Learnt
+pub next_winner_determined : Determined contracts.next_winner.ended rack.next_winner.Reads.Learnt
 next_winner_determined κ a x y b c p q = (one_result p q, refl)

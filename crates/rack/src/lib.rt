@@ -1,5 +1,6 @@
 // The rack: a state by value, which holds the card table, one array for each mark of a card, the bus, the value that the lines keep, and how many
 // cards wait; its events; and its file.
+#![tactic(auto)]
 ghost use Rattle.std.specs.Prelude.{◌≡◌, length};
 ghost use Rattle.arbiter.specs.Arbitrate.{arbitrate_of, event_of};
 ghost use Rattle.arbiter.specs.Events.{answered, request_of, release_of};
@@ -19,14 +20,14 @@ mod marks;
 mod recount;
 
 // What a load gives: the answer and a state.
-#[derive(Drop)]
+#[derive(Clone, Copy)]
 pub struct Loaded {
     pub answer: u8,
     pub state: RackState,
 }
 
 // How many cards wait: the answer and the count.
-#[derive(Drop)]
+#[derive(Clone, Copy)]
 pub struct HowMany {
     pub answer: u8,
     pub count: u8,

@@ -1,4 +1,5 @@
 // Counts a trace over the rack of the table rack.tab, and writes the waiting report: docs/REPORT.md.
+#![tactic(auto)]
 ghost use Rattle.std.specs.Prelude.{true, ◌≡◌};
 ghost use Rattle.arbiter.specs.Arbitrate.{event_of};
 ghost use Rattle.arbiter.specs.declared.RackState.{RackState as State};
@@ -12,7 +13,7 @@ use tally::{Figures, Tally};
 use trace::Line;
 
 // What the trace has next: an event by its letter and number, or nothing more.
-#[derive(Drop)]
+#[derive(Clone, Copy)]
 struct Next {
     letter: u8,
     number: u8,

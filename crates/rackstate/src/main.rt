@@ -42,6 +42,7 @@
 //   331  zeros, 4 bytes
 //
 // Each record is answered before the next is read. The program ends where the input ends or a record is short.
+#![tactic(auto)]
 use arbiter::RackState;
 use layout::{AFTER, RECORD, bytes_of, high_byte, low_byte, state_from};
 use libc::{STDIN_FILENO, STDOUT_FILENO};

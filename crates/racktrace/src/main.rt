@@ -1,9 +1,10 @@
 // Runs a trace over the rack of the table rack.tab, and writes the listing.
+#![tactic(auto)]
 use arbiter::RackState;
 use libc::{STDIN_FILENO, STDOUT_FILENO};
 
 // What stands between two reads: the state, how many bytes of an unfinished line are held at the front of the input, and whether to go on.
-#[derive(Drop)]
+#[derive(Clone, Copy)]
 struct Turn {
     state: RackState,
     held: usize,

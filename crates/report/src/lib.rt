@@ -1,4 +1,5 @@
 // The waiting report: each card's figures with its variance, and their text (docs/REPORT.md).
+#![tactic(auto)]
 ghost use Rattle.std.specs.Prelude.{◌≡◌};
 ghost use Rattle.report.specs.Report.{report_of};
 
@@ -13,7 +14,7 @@ pub use row::row_text;
 pub use text::{card_text, opening};
 
 // A card's figures, and the variance of its waits as a fraction.
-#[derive(Drop)]
+#[derive(Clone, Copy)]
 pub struct CardLine {
     pub grants: u16,
     pub sum: u32,
@@ -23,7 +24,7 @@ pub struct CardLine {
 }
 
 // The figures by arbitration number, or a refusal.
-#[derive(Drop)]
+#[derive(Clone, Copy)]
 pub struct Report {
     pub answer: u8,
     pub cards: [CardLine; 64],

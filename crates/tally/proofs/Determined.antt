@@ -3,15 +3,16 @@ use mathlib.Core.Path.{refl}
 use Rattle.one_result.proofs.Laws.{one_result}
 use Rattle.one_result.specs.Determined.{Determined}
 use Rattle.tally.proofs as tally
+use Rattle.tally.specs.contracts as contracts
 
-pub tally_good_determined : Determined tally.tally_good.ended tally.tally_good.Reads.Learnt
+pub tally_good_determined : Determined contracts.tally_good.ended tally.tally_good.Reads.Learnt
 tally_good_determined κ a x y b c p q = (one_result p q, refl)
 
-pub event_counted_determined : Determined tally.event_counted.ended tally.event_counted.Reads.Learnt
+pub event_counted_determined : Determined contracts.event_counted.ended tally.event_counted.Reads.Learnt
 event_counted_determined κ a x y b c p q = (one_result p q, refl)
 
-pub square_counted_determined : Determined tally.square_counted.ended tally.square_counted.Reads.Learnt
+pub square_counted_determined : Determined contracts.square_counted.ended tally.square_counted.Reads.Learnt
 square_counted_determined κ a x y b c p q = (one_result p q, refl)
 
-pub event_tallied_determined : Determined tally.event_tallied.ended tally.Walked.event_tallied.Learnt
+pub event_tallied_determined : Determined contracts.event_tallied.ended tally.Walked.event_tallied.Learnt
 event_tallied_determined κ a x y b c p q = (one_result p.0 q.0, λ i. (one_result p.1 q.1 i, (tt, (tt, (tt, (tt, tt))))))

@@ -1,4 +1,5 @@
 // The waiting report's figures: a tally of each card's waits and a square of who waited for whom, counted beside the rack's events.
+#![tactic(auto)]
 ghost use Rattle.std.specs.Prelude.{◌≡◌};
 ghost use Rattle.tally.specs.Room.{square_for};
 ghost use Rattle.tally.specs.Tally.{tally_good, counted_of, tallied_of};
@@ -16,7 +17,7 @@ mod square;
 
 // A card's sums. At most 65,535 events are counted, so that grants, a running wait and the sum of waits stay within 65,535 and the sum of squares
 // within its square. As given, a sum and a running wait may both be 65,534, and the next grant adds them: so the sums are wider than what 41 lets pass.
-#[derive(Drop)]
+#[derive(Clone, Copy)]
 pub struct Figures {
     pub grants: u16,
     pub sum: u32,
@@ -25,21 +26,21 @@ pub struct Figures {
 }
 
 // How many done events are counted, and the figures by arbitration number.
-#[derive(Drop)]
+#[derive(Clone, Copy)]
 pub struct Tally {
     pub events: u16,
     pub cards: [Figures; 64],
 }
 
 // A counted event: the next tally, and the outcome.
-#[derive(Drop)]
+#[derive(Clone, Copy)]
 pub struct Counted {
     pub tally: Tally,
     pub outcome: Outcome,
 }
 
 // A counted event where the tally was lent: the outcome, and the next square.
-#[derive(Drop)]
+#[derive(Clone, Copy)]
 pub struct Tallied {
     pub outcome: Outcome,
     pub square: [[u16; 64]; 64],

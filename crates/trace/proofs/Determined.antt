@@ -3,12 +3,13 @@ use mathlib.Core.Path.{refl}
 use Rattle.one_result.proofs.Laws.{one_result}
 use Rattle.one_result.specs.Determined.{Determined}
 use Rattle.trace.proofs as trace
+use Rattle.trace.specs.contracts as contracts
 
-pub parse_determined : Determined trace.parse.ended trace.parse.Reads.Learnt
+pub parse_determined : Determined contracts.parse.ended trace.parse.Reads.Learnt
 parse_determined κ a x y b c p q = (one_result p q, refl)
 
-pub text_determined : Determined trace.text.ended trace.text.Reads.Learnt
+pub text_determined : Determined contracts.text.ended trace.text.Reads.Learnt
 text_determined κ a x y b c p q = (one_result p q, refl)
 
-pub run_determined : Determined trace.run.ended trace.run.Reads.Learnt
+pub run_determined : Determined contracts.run.ended trace.run.Reads.Learnt
 run_determined κ a x y b c p q = (one_result p.result q.result, λ i. (tt, (tt, (one_result p.left q.left i, tt))))

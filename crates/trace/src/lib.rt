@@ -1,4 +1,5 @@
 // The trace listing: lines of a trace in, lines of the listing out.
+#![tactic(auto)]
 ghost use Rattle.std.specs.Prelude.{◌+◌, ◌*◌, min, ◌≡◌};
 ghost use Rattle.trace.specs.Line.{line_of, text_of};
 ghost use Rattle.trace.specs.Listing.{Lists};
@@ -13,7 +14,7 @@ mod reading;
 mod writing;
 
 // What one line of the trace asks for.
-#[derive(Drop)]
+#[derive(Clone, Copy)]
 pub enum Line {
     Request(u8),
     Arbitrate,
@@ -22,7 +23,7 @@ pub enum Line {
 }
 
 // What a run over a part of the trace leaves.
-#[derive(Drop)]
+#[derive(Clone, Copy)]
 pub struct Ran {
     pub state: RackState,
     pub read: usize,
