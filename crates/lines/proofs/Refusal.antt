@@ -12,8 +12,7 @@ use lib.Pow.{pow_mono, pow_pos, shl_exact}
 use lib.Seq.{drop-cons}
 use borrow.Author.Tests.{le-leb, lt-leb, leb-false, lt-ltb, le-ltb, ltb-false, ne_eqb}
 use Rattle.lines.specs.Greatest.{greatest}
-use Rattle.lines.specs.Settle.{some_from, refusal, Accepted, Settles, Ran}
-use Rattle.lines.specs.declared.Settled.{Settled}
+use Rattle.lines.specs.Settle.{some_from, refusal, Accepted}
 
 module _ (limit : ℕ) (numbers : List ℕ) (i : ℕ) where
   pub from_more : (b : Bool) → i < length numbers
@@ -171,14 +170,3 @@ not_refused m numbers start room some most ok =
       lt-leb room m ok.enough,
       le-ltb (2 ^ m - 1) start (omega (arith, ok.small)),
     )
-
--- the contract of a settling that is done, and of one that is refused
-module _ (m : ℕ) (numbers : List ℕ) (start : ℕ) (buffer : List ℕ) where
-  pub settles_done : (r : Settled) (last : List ℕ) → refusal m numbers start (length buffer) ≡ 0
-      → Ran m numbers start buffer r last → Settles m numbers start buffer r last
-  settles_done r last none ran = record { result = rw none ran.result; left = rw none ran.left }
-
-  pub settles_refused : (answer : ℕ) → answer ≡ refusal m numbers start (length buffer) → (answer ≡ 0 → ⊥)
-      → Settles m numbers start buffer (record { answer = answer; lines = 0; stages = 0; matches = 0 }) buffer
-  settles_refused zero e some = absurd (some refl)
-  settles_refused (suc refused) e some = record { result = rw (← e); left = rw (← e) }

@@ -1,0 +1,6 @@
+use Rattle.std.proofs.Common.{◌≡◌, ◌+◌, drop}
+use Rattle.lines.specs.Settle.{equal_to}
+use Rattle.lines.proofs.matching.Given as goal
+
+abbrev pub invariant-loop-i : goal.invariant-loop-i
+invariant-loop-i l = l.count + equal_to l.lines (drop l.i l.numbers) ≡ equal_to l.lines l.numbers

@@ -1,0 +1,5 @@
+use Rattle.lines.proofs.Join.{Joined}
+use Rattle.lines.proofs.next_stage.Given as goal
+
+abbrev pub invariant-loop-i : goal.invariant-loop-i
+invariant-loop-i l = Joined l.numbers l.lines l.joined l.i

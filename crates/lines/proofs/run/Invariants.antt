@@ -1,0 +1,10 @@
+-- The lines, the buffer and the stages that changed some line. A stage that changes some line is one of the first m, so the measure m - t falls.
+use Rattle.std.proofs.Common.{◌-◌}
+use Rattle.lines.proofs.After.{After}
+use Rattle.lines.proofs.run.Given as goal
+
+abbrev pub invariant-loop-lines : goal.invariant-loop-lines
+invariant-loop-lines l = After l.m l.numbers l.start l.initial.stages l.stages l.t l.lines
+
+abbrev pub decreases-loop-lines : goal.decreases-loop-lines
+decreases-loop-lines l = l.m - l.t

@@ -1,0 +1,6 @@
+use Rattle.std.proofs.Common.{◌≡◌, ◌||◌, drop}
+use Rattle.lines.specs.Settle.{some_from}
+use Rattle.lines.proofs.some_from.Given as goal
+
+abbrev pub invariant-loop-i : goal.invariant-loop-i
+invariant-loop-i l = (l.some || some_from l.limit (drop l.i l.numbers)) ≡ some_from l.limit l.numbers
