@@ -1,6 +1,7 @@
 // The rules by their numbers, and what they make of the marks of the cards without a settling: how the sets and the counts change, and who is next.
 // It takes what it reads, and no state.
 #![tactic(auto)]
+
 ghost use Rattle.std.specs.Prelude.{◌≤◌, ◌≡◌};
 ghost use Rattle.rules.specs.Look.{look_round};
 ghost use Rattle.rules.specs.Marks.{is_in};
