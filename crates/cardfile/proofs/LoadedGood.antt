@@ -4,10 +4,10 @@ use native.Mathlib.Decide.{dec_lt}
 use native.Mathlib.Omega.{arith}
 use mathlib.Core.Bool.{Bool, true, false, not, and-eq-true_iff}
 use mathlib.Core.List.{List}
-use mathlib.Core.Logic.{◌⊎◌, ◌≢◌, ⊎_elim}
+use mathlib.Core.Logic.{◌≢◌, ⊎_elim}
 use mathlib.Core.Path.{◌≡◌, refl, sym, ap, ◌∙◌}
 use lib.Dec.{eqb}
-use lib.ListN.{length, get_or}
+use lib.ListN.{get_or}
 use lib.Pow.{pow_mono}
 use borrow.Author.Tests.{leb-true, le-leb, ne_eqb, eq-eqb}
 use Rattle.cardfile.proofs.Done.{records_of, load_done}
