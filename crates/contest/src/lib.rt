@@ -1,6 +1,7 @@
 // The contest for the bus: who goes first, what each card shows the lines by the rule, and how they settle.
 // What is called for each card takes the numbers that it reads, and not the state, which would be copied each time.
 #![tactic(auto)]
+
 ghost use Rattle.std.specs.Prelude.{◌≡◌};
 ghost use Rattle.cards.specs.Below.{any_below};
 ghost use Rattle.rules.specs.Marks.{marks};
