@@ -14,5 +14,5 @@ event_counted_determined κ a x y b c p q = (one_result p q, refl)
 pub square_counted_determined : Determined contracts.square_counted.ended tally.square_counted.Reads.Learnt
 square_counted_determined κ a x y b c p q = (one_result p q, refl)
 
-pub event_tallied_determined : Determined contracts.event_tallied.ended tally.Walked.event_tallied.Learnt
+pub event_tallied_determined : Determined contracts.event_tallied.ended tally.event_tallied.Reads.Learnt
 event_tallied_determined κ a x y b c p q = (one_result p.0 q.0, λ i. (one_result p.1 q.1 i, (tt, (tt, (tt, (tt, tt))))))

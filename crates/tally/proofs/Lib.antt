@@ -1,5 +1,4 @@
 pub mod Laws
-pub mod Long
 pub mod Effects
 pub mod Room
 pub mod Sums
@@ -8,5 +7,4 @@ pub mod Happenings
 pub mod Ledger
 pub mod Kept
 pub mod SameRun
-pub mod Walked
 pub mod Determined

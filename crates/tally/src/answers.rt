@@ -5,6 +5,7 @@ ghost use Rattle.tally.specs.Tally.{counted_answer};
 use super::{Tally, tally_good};
 
 // The answer to an event that the rack answers with n: 31 and 41 come straight after 17.
+#[tactic(auto, unfolding(crate::specs::Tally::counted_answer))]
 pub(crate) fn counted_answer(t: Tally, q: [[u16; 64]; 64], n: u8) -> u8
     ensures { result ≡ counted_answer t q n }
 {

@@ -11,6 +11,7 @@ pub(crate) fn squared(x: u16) -> u64
     (x as u64) * (x as u64)
 }
 
+#[tactic(auto, unfolding(crate::specs::Tally::figures_small))]
 pub(crate) fn figures_small(n: u16, f: Figures) -> bool
     ensures { result ≡ figures_small n f }
 {
@@ -25,6 +26,7 @@ pub(crate) fn variance_good(n: u16, f: Figures) -> bool
     (f.sum as u64) * (f.sum as u64) <= (f.grants as u64) * f.squares
 }
 
+#[tactic(auto, unfolding(crate::specs::Tally::figures_good))]
 pub(crate) fn figures_good(n: u16, f: Figures) -> bool
     ensures { result ≡ figures_good n f }
 {
@@ -34,6 +36,7 @@ pub(crate) fn figures_good(n: u16, f: Figures) -> bool
     false
 }
 
+#[tactic(auto, using(cards::proofs::Below::all_none, cards::proofs::Below::all_more))]
 pub(crate) fn cards_good(t: Tally) -> bool
     ensures { result ≡ all_below 64 (card_good t) }
 {
@@ -44,6 +47,7 @@ pub(crate) fn cards_good(t: Tally) -> bool
     good
 }
 
+#[tactic(auto, using(cards::proofs::Below::all_none, cards::proofs::Below::all_more))]
 pub(crate) fn row_good(n: u16, row: [u16; 64]) -> bool
     ensures { result ≡ all_below 64 (entry_good n row) }
 {
@@ -54,6 +58,7 @@ pub(crate) fn row_good(n: u16, row: [u16; 64]) -> bool
     good
 }
 
+#[tactic(auto, using(cards::proofs::Below::all_none, cards::proofs::Below::all_more))]
 pub(crate) fn rows_good(n: u16, q: [[u16; 64]; 64]) -> bool
     ensures { result ≡ all_below 64 (row_good n q) }
 {

@@ -9,6 +9,7 @@ use super::{Figures, Tally};
 use arbiter::Outcome;
 
 // A request by the card a, for the card b.
+#[tactic(auto, unfolding(crate::specs::Tally::asked_figures))]
 pub(crate) fn asked(a: u8, b: usize, f: Figures) -> Figures
     ensures { result ≡ asked_figures a b f }
 {
@@ -20,6 +21,7 @@ pub(crate) fn asked(a: u8, b: usize, f: Figures) -> Figures
 }
 
 // A grant to w, for the card b that then waits or not, where n events were counted before it.
+#[tactic(auto, unfolding(crate::specs::Tally::granted_figures))]
 pub(crate) fn granted(n: u16, w: u8, waits: bool, b: usize, f: Figures) -> Figures
     requires { (n < 65535) × Small n f }
     ensures { result ≡ granted_figures w waits b f }
@@ -38,6 +40,7 @@ pub(crate) fn granted(n: u16, w: u8, waits: bool, b: usize, f: Figures) -> Figur
     next
 }
 
+#[tactic(auto, unfolding(crate::specs::Tally::figures_after))]
 pub(crate) fn figures_after(
     n: u16,
     letter: u8,

@@ -1,5 +1,6 @@
 // The waiting report's figures: a tally of each card's waits and a square of who waited for whom, counted beside the rack's events.
 #![tactic(auto)]
+
 ghost use Rattle.std.specs.Prelude.{◌≡◌};
 ghost use Rattle.tally.specs.Room.{square_for};
 ghost use Rattle.tally.specs.Tally.{tally_good, counted_of, tallied_of};
@@ -47,6 +48,7 @@ pub struct Tallied {
 }
 
 // Whether the tally and the square can be counted on: if not, 41.
+#[tactic(auto, unfolding(crate::specs::Tally::tally_good))]
 pub fn tally_good(t: Tally, q: [[u16; 64]; 64]) -> bool
     ensures { result ≡ tally_good t q }
 {
@@ -54,6 +56,7 @@ pub fn tally_good(t: Tally, q: [[u16; 64]; 64]) -> bool
 }
 
 // An event, counted by value: 17, 31, 41, and then the event's own refusals.
+#[tactic(auto, unfolding(crate::specs::Tally::counted_of, crate::specs::Tally::counted_by))]
 pub fn event_counted(t: Tally, q: [[u16; 64]; 64], s: RackState, letter: u8, a: u8) -> Counted
     ensures { result ≡ counted_of t q s letter a }
 {
@@ -68,6 +71,7 @@ pub fn event_counted(t: Tally, q: [[u16; 64]; 64], s: RackState, letter: u8, a: 
 }
 
 // The square after the outcome of an event counted where n events were before it.
+#[tactic(auto, unfolding(crate::specs::Room::square_for))]
 pub fn square_counted(n: u16, q: [[u16; 64]; 64], o: Outcome) -> [[u16; 64]; 64]
     ensures { result ≡ square_for n q o }
 {

@@ -7,6 +7,7 @@ ghost use Rattle.tally.specs.Tally.{row_after, rows_after, square_after};
 use arbiter::Outcome;
 
 // The row of a card that is left waiting by the grant to w, or not.
+#[tactic(auto, unfolding(crate::specs::Tally::row_after))]
 pub(crate) fn row_after(row: [u16; 64], waits: bool, w: u8) -> [u16; 64]
     requires { (w < 64) × (get_or row w 0 < 65535) }
     ensures { result ≡ row_after row waits w }
@@ -30,6 +31,7 @@ pub(crate) fn rows_after(q: [[u16; 64]; 64], waiting: [bool; 64], w: u8) -> [[u1
     next
 }
 
+#[tactic(auto, unfolding(crate::specs::Tally::square_after))]
 pub(crate) fn square_after(q: [[u16; 64]; 64], o: Outcome) -> [[u16; 64]; 64]
     requires { SquareRoom q o }
     ensures { result ≡ square_after q o }
