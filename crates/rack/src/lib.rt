@@ -1,6 +1,7 @@
 // The rack: a state by value, which holds the card table, one array for each mark of a card, the bus, the value that the lines keep, and how many
 // cards wait; its events; and its file.
 #![tactic(auto)]
+
 ghost use Rattle.std.specs.Prelude.{◌≡◌, length};
 ghost use Rattle.arbiter.specs.Arbitrate.{arbitrate_of, event_of};
 ghost use Rattle.arbiter.specs.Events.{answered, request_of, release_of};
