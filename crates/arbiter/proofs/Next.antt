@@ -2,15 +2,15 @@
 use Prim.Native.Nat.{ℕ, zero, suc, ◌+◌, ◌^◌, ◌≤◌, ◌<◌, max}
 use native.Mathlib.Omega.{arith}
 use mathlib.Core.Bool.{Bool, true, false, cond, not}
-use mathlib.Core.Logic.{◌⊎◌, inl, inr}
+use mathlib.Core.Logic.{inl}
 use mathlib.Core.Path.{◌≡◌, refl, sym, ap, ◌∙◌}
 use lib.Dec.{ltb, eqb}
-use borrow.Author.Tests.{ltb-true, ltb-false, lt-ltb, le-ltb, eqb-true, eqb-false, ne_eqb, eq-eqb}
+use borrow.Author.Tests.{ltb-true, ltb-false, lt-ltb, le-ltb, eqb-true, ne_eqb, eq-eqb}
 use Rattle.arbiter.proofs.Formed.{Formed, formed_of, of_formed, some_wait, same_mark}
 use Rattle.arbiter.proofs.Numbers.{number_1, competitor_waits}
 use Rattle.arbiter.proofs.Winner.{Won, won, arbitrated_won, all_compete}
-use Rattle.arbiter.specs.Arbitrate.{number_of, winner_of, some_loser_full, won_by, arbitrated, arbitrate_refusal, arbitrate_of}
-use Rattle.arbiter.specs.Events.{answered, answered_by}
+use Rattle.arbiter.specs.Arbitrate.{winner_of, some_loser_full, won_by, arbitrated, arbitrate_refusal, arbitrate_of}
+use Rattle.arbiter.specs.Events.{answered_by}
 use Rattle.arbiter.specs.Next.{next_refusal, told_by, next_by, next_of}
 use Rattle.arbiter.specs.State.{waits, is_closed, lines_of, well_formed, with_value}
 use Rattle.arbiter.specs.declared.NextWinner.{NextWinner}

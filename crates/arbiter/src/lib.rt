@@ -1,6 +1,7 @@
 // The arbiter: a state, and its events on marks that the caller lends. A run over many events keeps its marks in one place and finds out once whether
 // the state is well formed, since events keep it so. Each event is told that, and refuses with 17 where it is told no.
 #![tactic(auto)]
+
 ghost use Rattle.std.specs.Prelude.{◌≡◌};
 ghost use Rattle.arbiter.specs.Lent.{state_of, Requests, Releases, Arbitrates};
 ghost use Rattle.arbiter.specs.Next.{Looks};
