@@ -1,11 +1,10 @@
 -- What a done event was: a request by a card that did not wait, a grant to a card that did, or a release. Assumes nothing.
-use Prim.Native.Nat.{ℕ, ◌≤◌, ◌<◌}
+use Prim.Native.Nat.{ℕ, ◌<◌}
 use native.Mathlib.Omega.{arith}
 use mathlib.Core.Bool.{Bool, true, false, cond, not, ◌&&◌, ◌||◌}
 use mathlib.Core.List.{List}
-use mathlib.Core.Logic.{◌≢◌}
 use mathlib.Core.Path.{◌≡◌, refl, sym, ap, ◌∙◌}
-use lib.Dec.{eqb, ltb}
+use lib.Dec.{eqb}
 use lib.ListN.{length, get_or, set}
 use lib.Seq.{get_or-set_same, get_or-set_other}
 use borrow.Author.Tests.{eqb-true, eqb-false, eq-eqb, lt-ltb}
@@ -13,7 +12,7 @@ use Rattle.cards.proofs.TableKnown.{table_range}
 use Rattle.lines.specs.declared.Settled.{Settled}
 use Rattle.arbiter.proofs.Formed.{Formed, formed_of, some_wait}
 use Rattle.arbiter.proofs.Numbers.{competitor_waits}
-use Rattle.arbiter.proofs.Refusals.{may_request, may_release, MayArbitrate, may_arbitrate}
+use Rattle.arbiter.proofs.Refusals.{may_request, MayArbitrate, may_arbitrate}
 use Rattle.arbiter.proofs.Winner.{Won, won, arbitrated_won}
 use Rattle.arbiter.specs.Arbitrate.{some_loser_full, granted, grant_to, settling_of, winner_of, won_by, arbitrated, arbitrate_refusal, arbitrate_of}
 use Rattle.arbiter.specs.Events.{answered, answered_by, requested, request_refusal, request_of, released, release_refusal, release_of}

@@ -1,5 +1,5 @@
 -- What a counted event makes of the tally and of the square, and when they are refused, as request A4 of document 02 has it. Assumes nothing.
-use Rattle.std.specs.Prelude.{ℕ, ◌+◌, ◌*◌, ◌<◌, Bool, false, cond, not, ◌&&◌, ◌||◌, List, [], ◌≡◌, ltb, leb, eqb, get_or, set, replicate}
+use Rattle.std.specs.Prelude.{ℕ, ◌+◌, ◌*◌, Bool, false, cond, not, ◌&&◌, ◌||◌, List, [], ltb, leb, eqb, get_or, set, replicate}
 use Rattle.cards.specs.Below.{all_below, tabulate}
 use Rattle.arbiter.specs.Arbitrate.{by_letter, event_of}
 use Rattle.arbiter.specs.Events.{answered}
