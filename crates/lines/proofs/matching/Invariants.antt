@@ -1,3 +1,4 @@
+-- What was counted, and what is left to count. Assumes nothing.
 use Rattle.std.proofs.Common.{◌≡◌, ◌+◌, drop}
 use Rattle.lines.specs.Settle.{equal_to}
 use Rattle.lines.proofs.matching.Given as goal

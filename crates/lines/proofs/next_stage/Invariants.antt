@@ -1,3 +1,4 @@
+-- What the numbers passed apply is joined. Assumes nothing.
 use Rattle.lines.proofs.Join.{Joined}
 use Rattle.lines.proofs.next_stage.Given as goal
 

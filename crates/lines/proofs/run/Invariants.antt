@@ -1,4 +1,5 @@
 -- The lines, the buffer and the stages that changed some line. A stage that changes some line is one of the first m, so the measure m - t falls.
+-- Assumes nothing.
 use Rattle.std.proofs.Common.{◌-◌}
 use Rattle.lines.proofs.After.{After}
 use Rattle.lines.proofs.run.Given as goal

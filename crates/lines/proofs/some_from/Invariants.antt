@@ -1,3 +1,4 @@
+-- What was found, or is in what is left of the list. Assumes nothing.
 use Rattle.std.proofs.Common.{◌≡◌, ◌||◌, drop}
 use Rattle.lines.specs.Settle.{some_from}
 use Rattle.lines.proofs.some_from.Given as goal
