@@ -1,3 +1,4 @@
+-- `some` is the test over the numbers passed. Assumes nothing.
 use Rattle.std.proofs.Common.{◌≡◌}
 use Rattle.cards.specs.Below.{any_below}
 use Rattle.contest.specs.Shown.{first_at}

@@ -1,3 +1,4 @@
+-- The places passed are filled. Assumes nothing.
 use Rattle.std.proofs.Common.{ℕ, ◌^◌, ◌≡◌}
 use Rattle.cards.proofs.Filled.{Filled}
 use Rattle.rules.specs.Marks.{marks}
