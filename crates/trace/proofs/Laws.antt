@@ -5,11 +5,12 @@ use native.Mathlib.Numerals.{add-one}
 use native.Mathlib.Omega.{arith}
 use mathlib.Core.Bool.{Bool, true, false, ◌&&◌}
 use mathlib.Core.List.{List, ◌++◌, append_assoc, append-nil}
+use mathlib.Core.Logic.{◌≢◌}
 use mathlib.Core.Path.{◌≡◌, refl, sym, ap, ◌∙◌}
 use lib.Dec.{leb, eqb}
 use lib.ListN.{length, take, drop, length-append, length-drop, drop_of_length-le}
 use lib.Seq.{take_at, drop_at, drop-drop, take_all}
-use borrow.Author.Tests.{leb-true}
+use borrow.Author.Tests.{leb-true, ne_eqb}
 use Rattle.arbiter.proofs.Kept.{same_form}
 use Rattle.arbiter.proofs.Leaving.{table_kept, arbitrated_table, state_again}
 use Rattle.arbiter.proofs.Tests.{and_left, and_right}
@@ -21,7 +22,7 @@ use Rattle.arbiter.specs.declared.RackState.{RackState}
 use Rattle.arbiter.specs.declared.Reply.{Reply}
 use Rattle.cards.specs.declared.Table.{Table}
 use Rattle.rules.specs.Marks.{Marks}
-use Rattle.trace.specs.Line.{is_digit, shaped, is_malformed, line_outcome, text_of, line_text}
+use Rattle.trace.specs.Line.{is_digit, shaped, two_digits, line_of, is_malformed, line_outcome, text_of, line_text}
 use Rattle.trace.specs.Listing.{line_in, text_in, Listed, line_at, Listing, with_line, listing, ran_of}
 use Rattle.trace.specs.declared.Line.{Line}
 use Rattle.trace.specs.declared.Line.TheVariants.{Request, Arbitrate, Release, Malformed}
@@ -37,6 +38,34 @@ shaped_digits gap tens ones end h =
     let front = and_left (eqb gap 32 && is_digit tens && is_digit ones) _ h in
     let first = and_right (eqb gap 32) _ (and_left (eqb gap 32 && is_digit tens) _ front) in
     (digit_range tens first, digit_range ones (and_right (eqb gap 32 && is_digit tens) _ front))
+
+-- what such a line asks for, by its letter, and by its number where that is A; any other line is malformed
+pub line_unshaped : (letter gap tens ones end : ℕ) → shaped gap tens ones end ≡ false → Malformed ≡ line_of letter gap tens ones end
+unfolding line_of
+line_unshaped letter gap tens ones end bad = rw bad
+
+module _ (letter gap tens ones end : ℕ) (ok : shaped gap tens ones end ≡ true) where
+  pub line_q : letter ≡ 81 → Request (two_digits tens ones) ≡ line_of letter gap tens ones end
+  unfolding line_of
+  line_q q = rw (ok, q)
+
+  pub line_a : letter ≡ 65 → two_digits tens ones ≡ 0 → Arbitrate ≡ line_of letter gap tens ones end
+  unfolding line_of
+  line_a a none = rw (ok, a, none)
+
+  pub line_a_wrong : letter ≡ 65 → two_digits tens ones ≢ 0 → Malformed ≡ line_of letter gap tens ones end
+  unfolding line_of
+  line_a_wrong a some = rw (ok, a, ne_eqb _ 0 some)
+
+  pub line_r : letter ≡ 82 → Release (two_digits tens ones) ≡ line_of letter gap tens ones end
+  unfolding line_of
+  line_r r = rw (ok, r)
+
+  pub line_other : letter ≢ 81 → letter ≢ 65 → letter ≢ 82 → Malformed ≡ line_of letter gap tens ones end
+  unfolding line_of
+  line_other q a r = rw (ok, ne_eqb letter 81 q, ne_eqb letter 65 a, ne_eqb letter 82 r)
+
+pub ruleset line_cases = (line_unshaped, line_q, line_a, line_a_wrong, line_r, line_other)
 
 -- a line put at the front of the part of a buffer that begins at `start`
 pub part_put : (now line : List ℕ) (start n : ℕ)
@@ -57,17 +86,17 @@ line_after head line buffer now start n e whole =
 
 -- ---- one line
 
-line-length : (a b c d : ℕ) (line : Line) (answer winner lines stages matches : ℕ) → length (line_text a b c d line answer winner lines stages matches) ≡ 22
+line_length : (a b c d : ℕ) (line : Line) (answer winner lines stages matches : ℕ) → length (line_text a b c d line answer winner lines stages matches) ≡ 22
 unfolding line_text text_of
-line-length a b c d (Request n) answer winner lines stages matches = refl
-line-length a b c d Arbitrate answer winner lines stages matches = refl
-line-length a b c d (Release n) answer winner lines stages matches = refl
-line-length a b c d Malformed answer winner lines stages matches = refl
+line_length a b c d (Request n) answer winner lines stages matches = refl
+line_length a b c d Arbitrate answer winner lines stages matches = refl
+line_length a b c d (Release n) answer winner lines stages matches = refl
+line_length a b c d Malformed answer winner lines stages matches = refl
 
 pub text_length : (trace : List ℕ) (n : ℕ) (line : Line) (answer winner lines stages matches : ℕ)
     → length (text_in trace n line answer winner lines stages matches) ≡ 22
 unfolding text_in
-text_length trace n = line-length _ _ _ _
+text_length trace n = line_length _ _ _ _
 
 -- no line changes the table
 pub same_table : (s : RackState) (line : Line) → (line_outcome s line).state.table ≡ s.table

@@ -1,5 +1,6 @@
 // The trace listing: lines of a trace in, lines of the listing out.
 #![tactic(auto)]
+
 ghost use Rattle.std.specs.Prelude.{◌+◌, ◌*◌, min, ◌≡◌};
 ghost use Rattle.trace.specs.Line.{line_of, text_of};
 ghost use Rattle.trace.specs.Listing.{Lists};
@@ -32,6 +33,7 @@ pub struct Ran {
 }
 
 // The five bytes of a line.
+#[tactic(auto, using(crate::proofs::Laws::line_cases))]
 pub fn parse(letter: u8, gap: u8, tens: u8, ones: u8, end: u8) -> Line
     ensures { result ≡ line_of letter gap tens ones end }
 {

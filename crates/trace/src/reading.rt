@@ -6,6 +6,7 @@ ghost use Rattle.trace.specs.Listing.{line_in};
 use super::{Line, parse};
 
 // A space, two decimal digits, a newline.
+#[tactic(auto, unfolding(crate::specs::Line::shaped))]
 pub(crate) fn is_shaped(gap: u8, tens: u8, ones: u8, end: u8) -> bool
     ensures { result ≡ shaped gap tens ones end }
 {
@@ -25,6 +26,7 @@ pub(crate) fn is_malformed(line: Line) -> bool
 }
 
 // Line n of the input.
+#[tactic(auto, unfolding(crate::specs::Listing::line_in))]
 pub(crate) fn line_at(input: &[u8], n: usize) -> Line
     requires { 5 * n + 4 < length input.now }
     ensures { result ≡ line_in input.now n }

@@ -15,6 +15,7 @@ pub(crate) fn last_digit(x: u16) -> u8
 }
 
 // A line of the listing whose winner, lines, stages and figure are 0.
+#[tactic(auto, unfolding(crate::specs::Line::text_of))]
 pub(crate) fn quiet_text(a: u8, b: u8, c: u8, d: u8, answer: u8) -> [u8; 22]
     ensures { result ≡ text_of a b c d answer 0 0 0 0 }
 {
@@ -29,6 +30,7 @@ pub(crate) fn quiet_text(a: u8, b: u8, c: u8, d: u8, answer: u8) -> [u8; 22]
 }
 
 // A line of the listing, with all its digits.
+#[tactic(auto, unfolding(crate::specs::Line::text_of))]
 pub(crate) fn full_text(
     a: u8,
     b: u8,
@@ -61,6 +63,7 @@ pub(crate) fn full_text(
 }
 
 // The line of the listing that answers a line of the trace: its four characters, or ---- where it is malformed.
+#[tactic(auto, unfolding(crate::specs::Line::line_text))]
 pub(crate) fn line_text(a: u8, b: u8, c: u8, d: u8, line: Line, r: Reply) -> [u8; 22]
     ensures { result ≡ line_text a b c d line r.answer r.winner r.lines r.stages r.matches }
 {
