@@ -85,8 +85,8 @@ module _ (number : ℕ) (slots row : List ℕ) where
     unfolding rows_below has_card entry_text
     front_next = rw (add-one c) (sym (append_assoc (digits_of 2 number) _ _))
 
-    pub next-length : length (front (c + 1)) ≡ length (front c) + length text
-    next-length = rw (front_next, length-append)
+    pub next_length : length (front (c + 1)) ≡ length (front c) + length text
+    next_length = rw (front_next, length-append (front c) text)
 
     pub next_put : (buffer before last : List ℕ) (at next : ℕ) → at ≡ length (front c) → before ≡ front c ++ drop at buffer
         → (next ≡ at + length text) × (last ≡ take at before ++ (text ++ drop (at + length text) before)) → last ≡ front (c + 1) ++ drop next buffer

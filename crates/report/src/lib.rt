@@ -1,5 +1,6 @@
 // The waiting report: each card's figures with its variance, and their text (docs/REPORT.md).
 #![tactic(auto)]
+
 ghost use Rattle.std.specs.Prelude.{◌≡◌};
 ghost use Rattle.report.specs.Report.{report_of};
 
@@ -31,6 +32,7 @@ pub struct Report {
 }
 
 // The report of a tally and its square; 41 with zeros where they cannot be counted on.
+#[tactic(auto, using(tally::proofs::Laws::cards_of_lem), unfolding(crate::specs::Report::report_of))]
 pub fn waiting_report(t: Tally, q: [[u16; 64]; 64]) -> Report
     ensures { result ≡ report_of t q }
 {

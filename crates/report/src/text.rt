@@ -19,6 +19,7 @@ pub(crate) fn put_digits(line: &mut [u8], at: usize, width: usize, n: u64)
 }
 
 // The first line: four characters, why the counting ended, and how many events were counted.
+#[tactic(auto, unfolding(crate::specs::Text::opening_text, crate::specs::Text::digits_of))]
 pub fn opening(a: u8, b: u8, c: u8, d: u8, answer: u8, events: u16) -> [u8; 14]
     ensures { result ≡ opening_text a b c d answer events }
 {
