@@ -1,4 +1,5 @@
 pub mod Pairs
+pub mod Refusals
 pub mod Settle
 pub mod TableBytes
 pub mod Determined

@@ -1,5 +1,5 @@
--- A settling on lent bytes: what holds after each stage, what the last one leaves, and what the entry for C answers. Assumes nothing.
-use Prim.Native.Nat.{ℕ, zero, suc, ◌+◌, ◌*◌, ◌/◌, ◌%◌, ◌^◌, ◌≤◌, ◌<◌}
+-- A settling on lent bytes: what holds after each stage, what the last one leaves, and what is refused first. Assumes nothing.
+use Prim.Native.Nat.{ℕ, suc, ◌+◌, ◌*◌, ◌/◌, ◌%◌, ◌^◌, ◌≤◌, ◌<◌}
 use native.Mathlib.Numerals.{add-one}
 use native.Mathlib.Omega.{arith}
 use mathlib.Core.Bool.{or-true}
@@ -10,8 +10,8 @@ use lib.ListN.{length, drop, set, length-set}
 use lib.Seq.{drop-set-lt}
 use borrow.Author.Tests.{lt-ltb}
 use Rattle.laptop.proofs.Pairs.{put_next}
-use Rattle.laptop.specs.Settle.{SettlesBytes, code_or, bytes_or}
-use Rattle.laptop.specs.Words.{words, bytes}
+use Rattle.laptop.specs.Settle.{code_or, bytes_or}
+use Rattle.laptop.specs.Words.{bytes}
 use Rattle.lines.proofs.Trail.{trail-length}
 use Rattle.lines.proofs.Walk.{Walked, walked_none, next_lines, more, walked_next, walked_end}
 use Rattle.lines.specs.Greatest.{greatest}
@@ -42,16 +42,16 @@ kept_first m ws start lent first some begun = record { walked = walked_none m ws
     front (a ∷ b ∷ rest) some = refl
 
 module _ (m : ℕ) (ws : List ℕ) (start : ℕ) (first buffer : List ℕ) (t lines : ℕ) (fits : greatest ws < 2 ^ m) (small : start < 2 ^ m)
-    (so_far : Kept m ws start first buffer t lines) (next : ℕ) (is-next : next ≡ stage m ws lines) where
+    (so_far : Kept m ws start first buffer t lines) (next : ℕ) (is_next : next ≡ stage m ws lines) where
   pub kept_next : (last : List ℕ) → last ≡ put next (t + 1) buffer → m < length first / 2 → (next ≡ lines → ⊥)
       → Kept m ws start first last (t + 1) next
   unfolding trail
   kept_next last written room other =
-      let new = next_lines m ws start t lines fits small so_far.walked next is-next in
-      let less = more m ws start t lines fits small so_far.walked next is-next other in
+      let new = next_lines m ws start t lines fits small so_far.walked next is_next in
+      let less = more m ws start t lines fits small so_far.walked next is_next other in
       let long = trail-length m ws start t in
       rw (written, add-one t) (record {
-        walked = walked_next m ws start t lines fits small so_far.walked next is-next other;
+        walked = walked_next m ws start t lines fits small so_far.walked next is_next other;
         sized = put_length next (suc t) buffer ∙ so_far.sized;
         kept =
             rw (add-one (2 * suc t), so_far.kept, new)
@@ -63,7 +63,7 @@ module _ (m : ℕ) (ws : List ℕ) (start : ℕ) (first buffer : List ℕ) (t li
       → (code ≡ code_or 0 m ws start) × (buffer ≡ bytes_or 0 m ws start lent)
   unfolding settled
   kept_end lent begun same matches code counted coded =
-      let least = walked_end m ws start t lines fits small so_far.walked next is-next same in
+      let least = walked_end m ws start t lines fits small so_far.walked next is_next same in
       let rest : drop (2 * suc t) first ≡ drop (2 * suc t) lent =
       ap (drop (2 * suc t)) begun ∙ drop-set-lt (2 * suc t) (set lent 0 (start % 256)) 1 (start / 256 % 256) (omega arith)
       ∙ drop-set-lt (2 * suc t) lent 0 (start % 256) (omega arith) in
@@ -73,22 +73,7 @@ module _ (m : ℕ) (ws : List ℕ) (start : ℕ) (first buffer : List ℕ) (t li
             ∙ ap (λ (x : ℕ). bytes (trail m ws start x) ++ drop (2 * suc x) lent) least,
       )
 
-refused_wide : (m : ℕ) (ws : List ℕ) (start room : ℕ) → 12 < m → refusal m ws start room ≡ 21
+-- more lines than 12 are refused, whatever else is lent
+pub refused_wide : (m : ℕ) (ws : List ℕ) (start room : ℕ) → 12 < m → refusal m ws start room ≡ 21
 unfolding refusal
 refused_wide m ws start room wide = rw (lt-ltb 12 m wide, or-true (eqb m 0))
-
--- more lines than 12 are refused, whatever else is lent
-pub entry_wide : (m : ℕ) (numbers : List ℕ) (start : ℕ) (buffer : List ℕ) → 12 < m → SettlesBytes m numbers start buffer 121 buffer
-entry_wide m numbers start buffer wide =
-    let e : refusal m (words numbers) start (length buffer / 2) ≡ 21 = refused_wide m (words numbers) start (length buffer / 2) wide in
-    record { result = rw e; left = rw e }
-
-module _ (m : ℕ) (numbers : List ℕ) (start : ℕ) (buffer : List ℕ) where
-  pub entry_refused : (refused : ℕ) → refused ≡ refusal m (words numbers) start (length buffer / 2) → (refused ≡ 0 → ⊥)
-      → SettlesBytes m numbers start buffer (100 + refused) buffer
-  entry_refused zero e some = absurd (some refl)
-  entry_refused (suc refused) e some = record { result = rw (← e); left = rw (← e) }
-
-  pub entry_done : (t : ℕ) (last : List ℕ) → refusal m (words numbers) start (length buffer / 2) ≡ 0
-      → (t ≡ code_or 0 m (words numbers) start) × (last ≡ bytes_or 0 m (words numbers) start buffer) → SettlesBytes m numbers start buffer t last
-  entry_done t last none ran = record { result = rw none ran.0; left = rw none ran.1 }

@@ -1,5 +1,6 @@
-// Entries for the commissioning laptop's C program: numbers and byte slices only.
+// Entries for the commissioning laptop's C program: numbers and byte slices only. The crate laptop_c exports them.
 #![tactic(auto)]
+
 ghost use Rattle.std.specs.Prelude.{◌+◌, ◌≡◌};
 ghost use Rattle.cardfile.specs.Format.{load_table_of};
 ghost use Rattle.laptop.specs.Settle.{SettlesBytes};
@@ -26,8 +27,8 @@ fn settle_bytes(m: u8, numbers: &[u8], stages: &mut [u8], start: u32) -> u32
 
 // Settles m lines, which carry `start`, for C: t plus 256 times how many numbers equal the settled lines, or 100 plus the refusal. Any m over 12 is
 // refused, and so none is cut to a byte.
-#[unsafe(no_mangle)]
-pub extern "C" fn rack_settle(m: u32, numbers: &[u8], stages: &mut [u8], start: u32) -> u32
+#[tactic(auto, using(crate::proofs::Settle::refused_wide))]
+pub fn rack_settle(m: u32, numbers: &[u8], stages: &mut [u8], start: u32) -> u32
     ensures { SettlesBytes m numbers.now start stages.old result stages.new }
 {
     if 12 < m {
@@ -37,8 +38,7 @@ pub extern "C" fn rack_settle(m: u32, numbers: &[u8], stages: &mut [u8], start: 
 }
 
 // Checks the table of a file for C: the refusal, or 0.
-#[unsafe(no_mangle)]
-pub extern "C" fn rack_check(file: &[u8]) -> u32
+pub fn rack_check(file: &[u8]) -> u32
     ensures { result ≡ (load_table_of file.now).answer }
 {
     let loaded = cardfile::load_table(file);
@@ -46,8 +46,8 @@ pub extern "C" fn rack_check(file: &[u8]) -> u32
 }
 
 // The table of a file for C: the refusal, or 0 with k, the rule and the 64 slots by number at the front of the buffer.
-#[unsafe(no_mangle)]
-pub extern "C" fn rack_table(file: &[u8], out: &mut [u8]) -> u32
+#[tactic(auto, using(crate::proofs::TableBytes::answers))]
+pub fn rack_table(file: &[u8], out: &mut [u8]) -> u32
     ensures { GivesTable file.now out.old result out.new }
 {
     let loaded = cardfile::load_table(file);

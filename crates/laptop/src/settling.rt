@@ -20,6 +20,7 @@ fn some_from(numbers: &[u8], limit: u16) -> bool
 }
 
 // The first refusal that fits, or 0.
+#[tactic(auto, using(crate::proofs::Refusals::tests))]
 pub(crate) fn refusal_of(m: u8, numbers: &[u8], start: u32, room: usize) -> u8
     ensures { result ≡ refusal m (words numbers.now) start room }
 {
