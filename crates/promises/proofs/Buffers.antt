@@ -10,7 +10,7 @@ use lib.ListN.{length, drop}
 use lib.Seq.{drop_at}
 use borrow.Author.Tests.{eqb-true, ne_eqb}
 use denote.Triple.Clauses.{at_exit}
-use Rattle.arbiter.proofs as arbiter
+use Rattle.arbiter.specs.contracts as arbiter_contracts
 use Rattle.arbiter.proofs.Told.{Kept, kept_by, arbitrated_kept}
 use Rattle.arbiter.specs.Lent.{Leaves, marks_of}
 use Rattle.arbiter.specs.State.{well_formed}
@@ -20,7 +20,7 @@ use Rattle.arbiter.specs.declared.Reply.{Reply}
 use Rattle.cardfile.proofs.LoadedGood.{loaded_good}
 use Rattle.cardfile.specs.Format.{load_table_of}
 use Rattle.cardfile.specs.declared.LoadedTable.{LoadedTable}
-use Rattle.cards.proofs as cards
+use Rattle.cards.specs.contracts as cards_contracts
 use Rattle.cards.proofs.SavingLaws.{saved_length_lem}
 use Rattle.cards.proofs.TableKnown.{table_known}
 use Rattle.cards.specs.Saving.{saved_of, buffer_after, saved_bytes, saved_length}
@@ -28,12 +28,12 @@ use Rattle.cards.specs.Table.{table_good}
 use Rattle.cards.specs.declared.Saved.{Saved}
 use Rattle.cards.specs.declared.Table.{Table}
 use Rattle.rules.specs.Marks.{Marks}
-use Rattle.laptop.proofs as laptop
+use Rattle.laptop.specs.contracts as laptop_contracts
 use Rattle.laptop.proofs.Pairs.{bytes-length}
 use Rattle.laptop.specs.Settle.{SettlesBytes, code_or, bytes_or}
 use Rattle.laptop.specs.Table.{GivesTable, table_bytes, table_answer, table_left}
 use Rattle.laptop.specs.Words.{words, bytes}
-use Rattle.lines.proofs as lines
+use Rattle.lines.specs.contracts as lines_contracts
 use Rattle.lines.proofs.Refusal.{accepted, at_most}
 use Rattle.lines.proofs.Stages.{stages_le}
 use Rattle.lines.proofs.Trail.{trail-length}
@@ -41,10 +41,10 @@ use Rattle.lines.specs.Settle.{Settles, refusal, settled_or, written_or}
 use Rattle.lines.specs.Settling.{stages, trail}
 use Rattle.lines.specs.declared.Settled.{Settled}
 use Rattle.promises.specs.Buffers.{NoRefusalWrites, NothingBeyond, RefusedGivesZeros}
-use Rattle.rack.proofs as rack
+use Rattle.rack.specs.contracts as rack_contracts
 use Rattle.rack.specs.Files.{save_of, save_after}
 use Rattle.report.specs.Text.{row_text}
-use Rattle.tally.proofs as tally
+use Rattle.tally.specs.contracts as tally_contracts
 use Rattle.tally.proofs.Kept.{refused_counts}
 use Rattle.tally.specs.declared.Counted.{Counted}
 use Rattle.tally.specs.declared.Tallied.{Tallied}
@@ -194,31 +194,31 @@ pub no_refusal_writes : NoRefusalWrites
 no_refusal_writes = record {
   settle = λ κ a r b p refused.
       let kept = (settling p).kept refused in
-      λ i. at_exit lines.settle.ended κ a (tt, (tt, (tt, (kept i, tt))));
+      λ i. at_exit lines_contracts.settle.ended κ a (tt, (tt, (tt, (kept i, tt))));
   save_table = λ κ a r b p refused.
       let kept = (saving _ _ _ r p.0 p.1).kept refused in
-      λ i. at_exit cards.save_table.ended κ a (tt, (kept i, tt));
+      λ i. at_exit cards_contracts.save_table.ended κ a (tt, (kept i, tt));
   save = λ κ a r b p refused.
       let kept = (saving_state _ _ _ r p.0 p.1).kept refused in
-      λ i. at_exit rack.save.ended κ a (tt, (kept i, tt));
+      λ i. at_exit rack_contracts.save.ended κ a (tt, (kept i, tt));
   rack_settle = λ κ a r b p refused.
       let kept = (settling_bytes p).kept (omega arith) in
-      λ i. at_exit laptop.rack_settle.ended κ a (tt, (tt, (kept i, (tt, tt))));
+      λ i. at_exit laptop_contracts.rack_settle.ended κ a (tt, (tt, (kept i, (tt, tt))));
   rack_table = λ κ a r b p refused.
       let kept = table_kept p refused in
-      λ i. at_exit laptop.rack_table.ended κ a (tt, (kept i, tt));
+      λ i. at_exit laptop_contracts.rack_table.ended κ a (tt, (kept i, tt));
   request_in = λ κ a r b p refused.
       let kept = marks_kept _ _ r _ (kept_by _ _ _ (λ some. absurd (some refl))) (p.left 0 0 [] []) refused in
-      λ i. at_exit arbiter.request_in.ended κ a (tt, (tt, ((kept i).waiting, ((kept i).counts, (tt, (tt, tt))))));
+      λ i. at_exit arbiter_contracts.request_in.ended κ a (tt, (tt, ((kept i).waiting, ((kept i).counts, (tt, (tt, tt))))));
   release_in = λ κ a r b p refused. refl;
   arbitrate_in = λ κ a r b p refused.
       let kept = marks_kept _ _ r _ (kept_by _ _ _ (arbitrated_kept _)) (p.left []) refused in
-      λ i. at_exit arbiter.arbitrate_in.ended κ a
+      λ i. at_exit arbiter_contracts.arbitrate_in.ended κ a
       (tt, (tt, (tt, ((kept i).waiting, ((kept i).counts, ((kept i).batch, ((kept i).inhibited, (tt, tt))))))));
   event_tallied = λ κ a r b p refused.
       let same = (refused_counts _ _ _ _ _ (λ done. refused (ap (λ (q : Tallied). q.outcome.answer) p.0 ∙ done))).0 in
       let kept = p.1 ∙ ap (λ (c : Counted). c.tally) same in
-      λ i. at_exit tally.event_tallied.ended κ a (kept i, (tt, (tt, (tt, (tt, tt)))));
+      λ i. at_exit tally_contracts.event_tallied.ended κ a (kept i, (tt, (tt, (tt, (tt, tt)))));
 }
 
 pub nothing_beyond : NothingBeyond

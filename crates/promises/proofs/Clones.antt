@@ -1,22 +1,19 @@
 -- Cloned cards: how many numbers equal the settled lines. Assumes nothing.
-use Prim.Native.Nat.{ℕ, zero, suc, ◌+◌, ◌-◌, ◌/◌, ◌%◌, ◌^◌, ◌≤◌, ◌<◌}
+use Prim.Native.Nat.{ℕ, zero, suc, ◌+◌, ◌-◌, ◌/◌, ◌^◌, ◌≤◌, ◌<◌}
 use native.Mathlib.Omega.{arith}
 use mathlib.Core.Bool.{Bool, true, false, cond, ◌||◌, true≢false}
 use mathlib.Core.List.{List, [], ◌∷◌}
-use mathlib.Core.Logic.{◌≢◌}
 use mathlib.Core.Path.{◌≡◌, refl, sym, ap, ◌∙◌}
 use lib.Dec.{leb, ltb, eqb}
 use lib.ListN.{length}
 use borrow.Author.Tests.{lt-ltb}
 use Rattle.arbiter.proofs.Matched.{arbitration_shows, event_shows}
-use Rattle.arbiter.specs.declared.RackState.{RackState}
 use Rattle.laptop.specs.Settle.{code_or}
 use Rattle.laptop.specs.Words.{words}
 use Rattle.lines.proofs.Matches.{matches_greatest}
 use Rattle.lines.proofs.Refusal.{accepted}
 use Rattle.lines.specs.Greatest.{greatest}
 use Rattle.lines.specs.Settle.{equal_to, some_from, refusal, done}
-use Rattle.lines.specs.Settling.{stages}
 use Rattle.promises.proofs.Buffers.{few_stages}
 use Rattle.promises.proofs.Settling.{greatest_below}
 use Rattle.promises.specs.Clones.{Named, ShowsOne, ShowsNone, Taken, CodeRead}

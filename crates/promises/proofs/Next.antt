@@ -1,5 +1,4 @@
 -- Who is next: the look answers as an arbitration does. Assumes nothing.
-use mathlib.Core.Path.{◌≡◌, refl}
 use borrow.Author.Tests.{ne_eqb}
 use Rattle.arbiter.proofs.Next as looked
 use Rattle.arbiter.specs.Next.{next_refusal, next_by}

@@ -3,12 +3,18 @@
 use Rattle.std.specs.Prelude.{ℕ, suc, ◌*◌, ◌%◌, ◌≤◌, List, ◌≢◌, ◌≡◌, drop}
 use denote.Triple.Clauses.{at_exit}
 use Rattle.arbiter.proofs as arbiter
+use Rattle.arbiter.specs.contracts as arbiter_contracts
 use Rattle.cards.proofs as cards
+use Rattle.cards.specs.contracts as cards_contracts
 use Rattle.laptop.proofs as laptop
+use Rattle.laptop.specs.contracts as laptop_contracts
 use Rattle.lines.proofs as lines
+use Rattle.lines.specs.contracts as lines_contracts
 use Rattle.rack.proofs as rack
+use Rattle.rack.specs.contracts as rack_contracts
 use Rattle.report.proofs as report
 use Rattle.tally.proofs as tally
+use Rattle.tally.specs.contracts as tally_contracts
 use Rattle.trace.proofs as trace
 
 -- where the result refuses, all parameters are at exit what they were at entry; `left κ a b` has them at exit, where the lent ones hold b
@@ -17,16 +23,16 @@ KeptWhere {K} {A} {R} {B} Admits left Refuses = (κ : K) (a : A) (r : R) (b : B 
 
 -- No refusal writes to a buffer, nor to marks or a tally that are lent.
 pub record NoRefusalWrites : Type 0 where
-  pub settle : KeptWhere lines.settle.Reads.Learnt (at_exit lines.settle.ended) (λ r. r.answer ≢ 0)
-  pub save_table : KeptWhere cards.save_table.Reads.Learnt (at_exit cards.save_table.ended) (λ r. r.answer ≢ 0)
-  pub save : KeptWhere rack.save.Reads.Learnt (at_exit rack.save.ended) (λ r. r.answer ≢ 0)
+  pub settle : KeptWhere lines.settle.Reads.Learnt (at_exit lines_contracts.settle.ended) (λ r. r.answer ≢ 0)
+  pub save_table : KeptWhere cards.save_table.Reads.Learnt (at_exit cards_contracts.save_table.ended) (λ r. r.answer ≢ 0)
+  pub save : KeptWhere rack.save.Reads.Learnt (at_exit rack_contracts.save.ended) (λ r. r.answer ≢ 0)
   -- t, or 100 plus the refusal, is what 256 leaves of the code
-  pub rack_settle : KeptWhere laptop.rack_settle.Reads.Learnt (at_exit laptop.rack_settle.ended) (λ r. 100 ≤ r % 256)
-  pub rack_table : KeptWhere laptop.rack_table.Reads.Learnt (at_exit laptop.rack_table.ended) (λ r. r ≢ 0)
-  pub request_in : KeptWhere arbiter.request_in.Reads.Learnt (at_exit arbiter.request_in.ended) (λ r. r.answer ≢ 0)
-  pub release_in : KeptWhere arbiter.release_in.Reads.Learnt (at_exit arbiter.release_in.ended) (λ r. r.answer ≢ 0)
-  pub arbitrate_in : KeptWhere arbiter.arbitrate_in.Reads.Learnt (at_exit arbiter.arbitrate_in.ended) (λ r. r.answer ≢ 0)
-  pub event_tallied : KeptWhere tally.Walked.event_tallied.Learnt (at_exit tally.event_tallied.ended) (λ r. r.outcome.answer ≢ 0)
+  pub rack_settle : KeptWhere laptop.rack_settle.Reads.Learnt (at_exit laptop_contracts.rack_settle.ended) (λ r. 100 ≤ r % 256)
+  pub rack_table : KeptWhere laptop.rack_table.Reads.Learnt (at_exit laptop_contracts.rack_table.ended) (λ r. r ≢ 0)
+  pub request_in : KeptWhere arbiter.request_in.Reads.Learnt (at_exit arbiter_contracts.request_in.ended) (λ r. r.answer ≢ 0)
+  pub release_in : KeptWhere arbiter.release_in.Reads.Learnt (at_exit arbiter_contracts.release_in.ended) (λ r. r.answer ≢ 0)
+  pub arbitrate_in : KeptWhere arbiter.arbitrate_in.Reads.Learnt (at_exit arbiter_contracts.arbitrate_in.ended) (λ r. r.answer ≢ 0)
+  pub event_tallied : KeptWhere tally.event_tallied.Reads.Learnt (at_exit tally_contracts.event_tallied.ended) (λ r. r.outcome.answer ≢ 0)
 
 -- whatever the result: behind the entries that it says are written, a lent buffer has at exit what it had at entry
 abbrev pub Beyond : {K A R : Type 0} → (K → A → R → A → Type 0) → (A → List ℕ) → (R → ℕ) → Type 0
