@@ -1,5 +1,5 @@
--- A settling on lent bytes: what holds after each stage, what the last one leaves, and what is refused first. Assumes nothing.
-use Prim.Native.Nat.{ℕ, suc, ◌+◌, ◌*◌, ◌/◌, ◌%◌, ◌^◌, ◌≤◌, ◌<◌}
+-- A settling on lent bytes: what holds after each stage, what the last one leaves, and what the entry for C answers. Assumes nothing.
+use Prim.Native.Nat.{ℕ, zero, suc, ◌+◌, ◌*◌, ◌/◌, ◌%◌, ◌^◌, ◌≤◌, ◌<◌}
 use native.Mathlib.Numerals.{add-one}
 use native.Mathlib.Omega.{arith}
 use mathlib.Core.Bool.{or-true}
@@ -10,8 +10,8 @@ use lib.ListN.{length, drop, set, length-set}
 use lib.Seq.{drop-set-lt}
 use borrow.Author.Tests.{lt-ltb}
 use Rattle.laptop.proofs.Pairs.{put_next}
-use Rattle.laptop.specs.Settle.{code_or, bytes_or}
-use Rattle.laptop.specs.Words.{bytes}
+use Rattle.laptop.specs.Settle.{SettlesBytes, code_or, bytes_or}
+use Rattle.laptop.specs.Words.{words, bytes}
 use Rattle.lines.proofs.Trail.{trail-length}
 use Rattle.lines.proofs.Walk.{Walked, walked_none, next_lines, more, walked_next, walked_end}
 use Rattle.lines.specs.Greatest.{greatest}
@@ -77,3 +77,18 @@ module _ (m : ℕ) (ws : List ℕ) (start : ℕ) (first buffer : List ℕ) (t li
 pub refused_wide : (m : ℕ) (ws : List ℕ) (start room : ℕ) → 12 < m → refusal m ws start room ≡ 21
 unfolding refusal
 refused_wide m ws start room wide = rw (lt-ltb 12 m wide, or-true (eqb m 0))
+
+pub entry_wide : (m : ℕ) (numbers : List ℕ) (start : ℕ) (buffer : List ℕ) → 12 < m → SettlesBytes m numbers start buffer 121 buffer
+entry_wide m numbers start buffer wide =
+    let e : refusal m (words numbers) start (length buffer / 2) ≡ 21 = refused_wide m (words numbers) start (length buffer / 2) wide in
+    record { result = rw e; left = rw e }
+
+module _ (m : ℕ) (numbers : List ℕ) (start : ℕ) (buffer : List ℕ) where
+  pub entry_refused : (refused : ℕ) → refused ≡ refusal m (words numbers) start (length buffer / 2) → (refused ≡ 0 → ⊥)
+      → SettlesBytes m numbers start buffer (100 + refused) buffer
+  entry_refused zero e some = absurd (some refl)
+  entry_refused (suc refused) e some = record { result = rw (← e); left = rw (← e) }
+
+  pub entry_done : (t : ℕ) (last : List ℕ) → refusal m (words numbers) start (length buffer / 2) ≡ 0
+      → (t ≡ code_or 0 m (words numbers) start) × (last ≡ bytes_or 0 m (words numbers) start buffer) → SettlesBytes m numbers start buffer t last
+  entry_done t last none ran = record { result = rw none ran.0; left = rw none ran.1 }

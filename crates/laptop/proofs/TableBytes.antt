@@ -2,10 +2,10 @@
 use Prim.Native.Nat.{ℕ, suc, ◌+◌, ◌≤◌, ◌<◌}
 use native.Mathlib.Omega.{arith}
 use mathlib.Core.List.{List, [], ◌∷◌, ◌++◌}
-use mathlib.Core.Path.{◌≡◌, ◌∙◌}
+use mathlib.Core.Path.{◌≡◌, refl, ◌∙◌}
 use lib.ListN.{length, get_or, drop, set, length-set}
 use borrow.Author.Tests.{eq-eqb, ne_eqb, lt-leb, le-leb}
-use lib.Seq.{paste, paste-suc, take_all}
+use lib.Seq.{paste, paste-zero, paste-suc, take_all}
 use Rattle.cardfile.specs.Format.{load_table_of}
 use Rattle.cardfile.specs.declared.LoadedTable.{LoadedTable}
 use Rattle.cards.specs.declared.Table.{Table}
@@ -17,6 +17,10 @@ pub record Copied (before slots out : List ℕ) (a : ℕ) : Type 0 where
   pub room : 66 ≤ length before
   pub same_length : length out ≡ length before
   pub so_far : out ≡ paste before 2 slots a
+
+pub copied_none : (before slots : List ℕ) → 66 ≤ length before → Copied before slots before 0
+copied_none before slots room =
+    record { within = omega arith; room = room; same_length = refl; so_far = paste-zero before 2 slots }
 
 pub copied_next : {before slots out : List ℕ} {a : ℕ} → length slots ≡ 64 → a < 64 → Copied before slots out a
     → Copied before slots (set out (a + 2) (get_or slots a 0)) (a + 1)
