@@ -1,7 +1,12 @@
 // Runs a trace over the rack of the table rack.tab, and writes the listing.
 #![tactic(auto)]
+
+ghost use Rattle.std.specs.Prelude.{◌≤◌, IfOk, length};
+
 use arbiter::RackState;
-use libc::{STDIN_FILENO, STDOUT_FILENO};
+use std::io::Read;
+use std::rt::Files;
+use std::{fs, io};
 
 // What stands between two reads: the state, how many bytes of an unfinished line are held at the front of the input, and whether to go on.
 #[derive(Clone, Copy)]
@@ -11,21 +16,35 @@ struct Turn {
     more: bool,
 }
 
-// The bytes of rack.tab, at most 8,193 of them; a file that cannot be opened counts as empty.
-fn table_bytes(file: &mut [u8]) -> usize {
-    let fd = os::open_read(b"rack.tab");
-    if fd < 0 {
-        return 0;
+// Reads until the buffer is full or the source ends, and returns how many bytes came.
+fn read_full(source: &mut impl Read, buf: &mut [u8]) -> io::Result<usize>
+    ensures { IfOk result (λ n. n ≤ length buf.new) }
+{
+    let mut len = 0;
+    while len < buf.len() {
+        let got = source.read(&mut buf[len..])?;
+        if got == 0 {
+            return Ok(len);
+        }
+        len += got;
     }
-    let len = io::read_full(fd, file);
-    libc::close(fd);
-    len
+    Ok(len)
+}
+
+// The bytes of rack.tab, as many as there is room for; a file that cannot be opened or read counts as empty.
+fn table_bytes(rt: &impl Files, file: &mut [u8]) -> usize
+    ensures { result ≤ length file.new }
+{
+    match fs::open(rt, "rack.tab") {
+        Ok(mut table) => read_full(&mut table, file).unwrap_or(0),
+        Err(_) => 0,
+    }
 }
 
 // A line that stands for no event.
-fn print_alone(a: u8, b: u8, c: u8, d: u8, answer: u8) {
+fn print_alone(rt: &impl Print, a: u8, b: u8, c: u8, d: u8, answer: u8) -> io::Result<()> {
     let line = trace::text(a, b, c, d, answer, 0, 0, 0, 0);
-    io::write_all(STDOUT_FILENO, &line);
+    rt.write_all(&line)
 }
 
 // Moves the bytes from at to end, fewer than a line, to the front.
@@ -44,54 +63,65 @@ fn keep_rest(input: &mut [u8], at: usize, end: usize) -> usize {
 }
 
 // The input is at its end: an unfinished line is malformed.
-fn ended(state: RackState, held: usize) -> Turn {
+fn ended(rt: &impl Print, state: RackState, held: usize) -> io::Result<Turn> {
     if 0 < held {
-        print_alone(b'-', b'-', b'-', b'-', 18);
+        print_alone(rt, b'-', b'-', b'-', b'-', 18)?;
     }
-    Turn {
+    Ok(Turn {
         state,
         held: 0,
         more: false,
-    }
+    })
 }
 
 // Answers the lines that have arrived, which are the first len bytes of the input, with one write.
-fn answered(state: RackState, len: usize, input: &mut [u8], output: &mut [u8]) -> Turn {
+fn answered(
+    rt: &impl Print,
+    state: RackState,
+    len: usize,
+    input: &mut [u8],
+    output: &mut [u8],
+) -> io::Result<Turn> {
     if input.len() < len {
-        return ended(state, 0);
+        return ended(rt, state, 0);
     }
     let ran = trace::run(state, &input[..len], output);
     let written = ran.written;
     if output.len() < written {
-        return ended(state, 0);
+        return ended(rt, state, 0);
     }
-    let is_written = io::write_all(STDOUT_FILENO, &output[..written]);
+    rt.write_all(&output[..written])?;
     let held = keep_rest(input, ran.read, len);
     let next = ran.state;
-    Turn {
+    Ok(Turn {
         state: next,
         held,
-        more: is_written & !ran.ended,
-    }
+        more: !ran.ended,
+    })
 }
 
 // Waits for input once, and answers every line that has arrived before it returns.
-fn take_turn(t: Turn, input: &mut [u8], output: &mut [u8]) -> Turn {
+fn take_turn(
+    rt: &impl Print,
+    source: &mut impl Read,
+    t: Turn,
+    input: &mut [u8],
+    output: &mut [u8],
+) -> io::Result<Turn> {
     let held = t.held;
     let state = t.state;
     if input.len() <= held {
-        return ended(state, 0);
+        return ended(rt, state, 0);
     }
-    let got = libc::read(STDIN_FILENO, &mut input[held..]);
-    if got <= 0 {
-        return ended(state, held);
+    let got = source.read(&mut input[held..])?;
+    if got == 0 {
+        return ended(rt, state, held);
     }
-    let len = held + io::count(got, &input[held..]);
-    answered(state, len, input, output)
+    answered(rt, state, held + got, input, output)
 }
 
-// A proved loop has to end, and nothing says that the input does: the loop counts its turns down from a number that no run uses up.
-fn answer_all(s: RackState) {
+// A proved loop has to end, and nothing says that the input does: the loop has more turns than any run uses up.
+fn answer_all(rt: &impl Print, source: &mut impl Read, s: RackState) -> io::Result<()> {
     let mut input = [0u8; 16380];
     let mut output = [0u8; 72072];
     let mut t = Turn {
@@ -99,26 +129,23 @@ fn answer_all(s: RackState) {
         held: 0,
         more: true,
     };
-    let mut turns = u64::MAX;
-    while turns > 0 && t.more {
-        let next = take_turn(t, &mut input, &mut output);
-        t = next;
-        turns -= 1;
+    for _ in 0..u64::MAX {
+        if !t.more {
+            break;
+        }
+        t = take_turn(rt, source, t, &mut input, &mut output)?;
     }
+    Ok(())
 }
 
-fn main() {
+fn main(rt: HostRuntime) -> io::Result<()> {
     let mut file = [0u8; 8193];
-    let len = table_bytes(&mut file);
-    if 8193 < len {
-        return;
-    }
+    let len = table_bytes(&rt, &mut file);
     let loaded = rack::load(&file[..len]);
     let answer = loaded.answer;
     if answer != 0 {
-        print_alone(b't', b'a', b'b', b'.', answer);
-        return;
+        return print_alone(&rt, b't', b'a', b'b', b'.', answer);
     }
     let state = loaded.state;
-    answer_all(state);
+    answer_all(&rt, &mut rt.stdin(), state)
 }
