@@ -43,14 +43,16 @@
 //
 // Each record is answered before the next is read. The program ends where the input ends or a record is short.
 #![tactic(auto)]
+
 use arbiter::RackState;
 use layout::{AFTER, RECORD, bytes_of, high_byte, low_byte, state_from};
-use libc::{STDIN_FILENO, STDOUT_FILENO};
+use std::io;
+use std::io::Read;
 
 mod layout;
 
-// Writes what an event makes of the state; whether it could be written.
-fn answer_event(state: RackState, letter: u8, number: u8) -> bool {
+// Writes what an event makes of the state.
+fn answer_event(rt: &impl Print, state: RackState, letter: u8, number: u8) -> io::Result<()> {
     let outcome = rack::event(state, letter, number);
     let next = outcome.state;
     let mut out = bytes_of(next);
@@ -60,65 +62,76 @@ fn answer_event(state: RackState, letter: u8, number: u8) -> bool {
     out[AFTER + 3] = high_byte(outcome.lines as usize);
     out[AFTER + 4] = outcome.stages;
     out[AFTER + 5] = outcome.matches;
-    io::write_all(STDOUT_FILENO, &out)
+    rt.write_all(&out)
 }
 
-// Saves the state to the bytes lent, and writes the answer and those bytes; whether they could be written.
-fn answer_save(state: RackState, lent: &mut [u8]) -> bool {
+// Saves the state to the bytes lent, and writes the answer and those bytes.
+fn answer_save(rt: &impl Print, state: RackState, lent: &mut [u8]) -> io::Result<()> {
     let saved = rack::save(state, lent);
     let mut out = bytes_of(state);
     out[AFTER] = saved.answer;
     out[AFTER + 1] = low_byte(saved.len);
     out[AFTER + 2] = high_byte(saved.len);
-    io::write_all(STDOUT_FILENO, &out) && io::write_all(STDOUT_FILENO, lent)
+    rt.write_all(&out)?;
+    rt.write_all(lent)
 }
 
-// Writes how many cards of the state wait; whether it could be written.
-fn answer_count(state: RackState) -> bool {
+// Writes how many cards of the state wait.
+fn answer_count(rt: &impl Print, state: RackState) -> io::Result<()> {
     let waiting = rack::waiting_count(state);
     let mut out = bytes_of(state);
     out[AFTER] = waiting.answer;
     out[AFTER + 1] = waiting.count;
-    io::write_all(STDOUT_FILENO, &out)
+    rt.write_all(&out)
 }
 
-// Writes who is next in the state; whether it could be written.
-fn answer_next(state: RackState) -> bool {
+// Writes who is next in the state.
+fn answer_next(rt: &impl Print, state: RackState) -> io::Result<()> {
     let next = rack::next_winner(state);
     let mut out = bytes_of(state);
     out[AFTER] = next.answer;
     out[AFTER + 1] = next.winner;
-    io::write_all(STDOUT_FILENO, &out)
+    rt.write_all(&out)
 }
 
 // Lends so many bytes to a save, each of which holds EE.
-fn lend_to_save(state: RackState, number: u8) -> bool {
+fn lend_to_save(rt: &impl Print, state: RackState, number: u8) -> io::Result<()> {
     let mut buffer = [0xEEu8; 255];
     let len = number as usize;
-    answer_save(state, &mut buffer[..len])
+    answer_save(rt, state, &mut buffer[..len])
 }
 
-// Answers one record; whether the answer could be written.
-fn answer(bytes: &[u8; RECORD]) -> bool {
+// Answers one record.
+fn answer(rt: &impl Print, bytes: &[u8; RECORD]) -> io::Result<()> {
     let state = state_from(bytes);
     let letter = bytes[AFTER];
     let number = bytes[AFTER + 1];
     match letter {
-        b'S' => lend_to_save(state, number),
-        b'N' => answer_count(state),
-        b'W' => answer_next(state),
-        _ => answer_event(state, letter, number),
+        b'S' => lend_to_save(rt, state, number),
+        b'N' => answer_count(rt, state),
+        b'W' => answer_next(rt, state),
+        _ => answer_event(rt, state, letter, number),
     }
 }
 
-// A proved loop has to end, and nothing says that the input does: the loop counts its turns down from a number that no run uses up.
-fn main() {
-    let mut bytes = [0u8; RECORD];
-    let mut more = true;
-    let mut turns = u64::MAX;
-    while turns > 0 && more {
-        let len = io::read_full(STDIN_FILENO, &mut bytes);
-        more = len == RECORD && answer(&bytes);
-        turns -= 1;
+// Reads the next record; whether it is whole.
+fn next_record(source: &mut impl Read, bytes: &mut [u8; RECORD]) -> io::Result<bool> {
+    match source.read_exact(bytes) {
+        Ok(()) => Ok(true),
+        Err(e) if e.kind() == io::ErrorKind::UnexpectedEof => Ok(false),
+        Err(e) => Err(e),
     }
+}
+
+// A proved loop has to end, and nothing says that the input does: the loop has more turns than any run uses up.
+fn main(rt: HostRuntime) -> io::Result<()> {
+    let mut source = rt.stdin();
+    let mut bytes = [0u8; RECORD];
+    for _ in 0..u64::MAX {
+        if !next_record(&mut source, &mut bytes)? {
+            break;
+        }
+        answer(&rt, &bytes)?;
+    }
+    Ok(())
 }
