@@ -1,14 +1,18 @@
 // Counts a trace over the rack of the table rack.tab, and writes the waiting report: docs/REPORT.md.
 #![tactic(auto)]
-ghost use Rattle.std.specs.Prelude.{true, ◌≡◌};
+
+ghost use Rattle.std.specs.Prelude.{true, ◌≡◌, ◌≤◌, IfOk, length};
 ghost use Rattle.arbiter.specs.Arbitrate.{event_of};
 ghost use Rattle.arbiter.specs.declared.RackState.{RackState as State};
 ghost use Rattle.tally.specs.Tally.{zero_tally};
 ghost use Rattle.trace.specs.Line.{line_outcome};
 
 use arbiter::RackState;
-use libc::{STDERR_FILENO, STDIN_FILENO, STDOUT_FILENO};
 use report::CardLine;
+use std::env::FillError;
+use std::io::Read;
+use std::rt::{Env, Files};
+use std::{fs, io};
 use tally::{Figures, Tally};
 use trace::Line;
 
@@ -39,6 +43,7 @@ fn no_event() -> Next {
 }
 
 // The event to count, which the rack answers as it answers the line. No event has the letter 0, so that a malformed line gets 18.
+#[tactic(auto, unfolding(arbiter::specs::Arbitrate::event_of, trace::specs::Line::line_outcome))]
 fn event_of(line: Line) -> Next
     ensures { (s : State) → event_of s result.letter result.number ≡ line_outcome s line }
 {
@@ -50,23 +55,38 @@ fn event_of(line: Line) -> Next
     }
 }
 
+// Reads until the buffer is full or the source ends, and returns how many bytes came.
+fn read_full(source: &mut impl Read, buf: &mut [u8]) -> io::Result<usize>
+    ensures { IfOk result (λ n. n ≤ length buf.new) }
+{
+    let mut len = 0;
+    while len < buf.len() {
+        let got = source.read(&mut buf[len..])?;
+        if got == 0 {
+            return Ok(len);
+        }
+        len += got;
+    }
+    Ok(len)
+}
+
 // Reads a line. One that the end of the input cuts short has no newline for its last byte, and so is malformed.
-fn next_event() -> Next {
+fn next_event(source: &mut impl Read) -> io::Result<Next> {
     let mut bytes = [0u8; 5];
-    let len = io::read_full(STDIN_FILENO, &mut bytes);
+    let len = read_full(source, &mut bytes)?;
     if len == 0 {
-        return no_event();
+        return Ok(no_event());
     }
     let line = trace::parse(bytes[0], bytes[1], bytes[2], bytes[3], bytes[4]);
-    event_of(line)
+    Ok(event_of(line))
 }
 
 // Reads on unless the counting has ended.
-fn event_after(ended: u8) -> Next {
+fn event_after(source: &mut impl Read, ended: u8) -> io::Result<Next> {
     if ended != 0 {
-        return no_event();
+        return Ok(no_event());
     }
-    next_event()
+    next_event(source)
 }
 
 // What ends the counting: 18 and 31, and 17 and 41, which a count from a fresh state never meets. A refusal of a single event does not.
@@ -92,66 +112,91 @@ fn zero_tally() -> Tally
     }
 }
 
-fn print_opening(a: u8, b: u8, c: u8, d: u8, answer: u8, events: u16) {
+fn print_opening(
+    rt: &impl Print,
+    a: u8,
+    b: u8,
+    c: u8,
+    d: u8,
+    answer: u8,
+    events: u16,
+) -> io::Result<()> {
     let line = report::opening(a, b, c, d, answer, events);
-    io::write_all(STDOUT_FILENO, &line);
+    rt.write_all(&line)
 }
 
-fn print_card(slot: u8, number: u8, card: CardLine) {
+fn print_card(rt: &impl Print, slot: u8, number: u8, card: CardLine) -> io::Result<()> {
     if slot == 0 {
-        return;
+        return Ok(());
     }
     let line = report::card_text(slot, number, card);
-    io::write_all(STDOUT_FILENO, &line);
+    rt.write_all(&line)
 }
 
-fn print_cards(slots: [u8; 64], cards: [CardLine; 64]) {
+fn print_cards(rt: &impl Print, slots: [u8; 64], cards: [CardLine; 64]) -> io::Result<()> {
     for a in 0..64usize {
-        print_card(slots[a], a as u8, cards[a]);
+        print_card(rt, slots[a], a as u8, cards[a])?;
     }
+    Ok(())
 }
 
-fn print_row(slot: u8, number: u8, slots: [u8; 64], row: [u16; 64]) {
+fn print_row(
+    rt: &impl Print,
+    slot: u8,
+    number: u8,
+    slots: [u8; 64],
+    row: [u16; 64],
+) -> io::Result<()> {
     if slot == 0 {
-        return;
+        return Ok(());
     }
     let mut line = [0u8; 387];
     let len = report::row_text(number, slots, row, &mut line);
-    io::write_all(STDOUT_FILENO, &line[..len]);
+    rt.write_all(&line[..len])
 }
 
-fn print_square(slots: [u8; 64], square: [[u16; 64]; 64]) {
+fn print_square(rt: &impl Print, slots: [u8; 64], square: [[u16; 64]; 64]) -> io::Result<()> {
     for a in 0..64usize {
-        print_row(slots[a], a as u8, slots, square[a]);
+        print_row(rt, slots[a], a as u8, slots, square[a])?;
     }
+    Ok(())
 }
 
 fn print_report(
+    rt: &impl Print,
     slots: [u8; 64],
     ended: u8,
     tally: Tally,
     square: [[u16; 64]; 64],
     with_square: bool,
-) {
-    print_opening(b'e', b'n', b'd', b'.', ended, tally.events);
+) -> io::Result<()> {
+    print_opening(rt, b'e', b'n', b'd', b'.', ended, tally.events)?;
     let figures = report::waiting_report(tally, square);
     let cards = figures.cards;
-    print_cards(slots, cards);
+    print_cards(rt, slots, cards)?;
     if with_square {
-        print_square(slots, square);
+        print_square(rt, slots, square)?;
     }
+    Ok(())
 }
 
-// A proved loop has to end, and nothing says that the input does: the loop counts its turns down from a number that no run uses up.
-fn count_all(start: RackState, with_square: bool) {
+// A proved loop has to end, and nothing says that the input does: the loop has more turns than any run uses up.
+fn count_all(
+    rt: &impl Print,
+    source: &mut impl Read,
+    start: RackState,
+    with_square: bool,
+) -> io::Result<()> {
     let table = start.table;
     let mut state = start;
     let mut tally = zero_tally();
     let mut square = [[0u16; 64]; 64];
     let mut ended = 0u8;
-    let mut event = next_event();
-    let mut turns = u64::MAX;
-    while turns > 0 && event.more {
+    let mut event = next_event(source)?;
+    for _ in 0..u64::MAX {
+        if !event.more {
+            break;
+        }
         let before = tally.events;
         let counted = tally::event_counted(tally, square, state, event.letter, event.number);
         let outcome = counted.outcome;
@@ -160,51 +205,59 @@ fn count_all(start: RackState, with_square: bool) {
         tally = counted.tally;
         state = outcome.state;
         ended = ending(outcome.answer);
-        event = event_after(ended);
-        turns -= 1;
+        event = event_after(source, ended)?;
     }
     let slots = table.slots;
-    print_report(slots, ended, tally, square, with_square);
+    print_report(rt, slots, ended, tally, square, with_square)
 }
 
-// A file that cannot be opened has no bytes to read, and counts as empty.
-fn report_table(with_square: bool) {
+// The bytes of rack.tab, as many as there is room for; a file that cannot be opened or read counts as empty.
+fn table_bytes(rt: &impl Files, file: &mut [u8]) -> usize
+    ensures { result ≤ length file.new }
+{
+    match fs::open(rt, "rack.tab") {
+        Ok(mut table) => read_full(&mut table, file).unwrap_or(0),
+        Err(_) => 0,
+    }
+}
+
+fn report_table<R: Files + Print>(
+    rt: &R,
+    source: &mut impl Read,
+    with_square: bool,
+) -> io::Result<()> {
     let mut file = [0u8; 8193];
-    let fd = os::open_read(b"rack.tab");
-    let len = io::read_full(fd, &mut file);
-    libc::close(fd);
+    let len = table_bytes(rt, &mut file);
     let loaded = rack::load(&file[..len]);
     let answer = loaded.answer;
     if answer != 0 {
-        print_opening(b't', b'a', b'b', b'.', answer, 0);
-        return;
+        return print_opening(rt, b't', b'a', b'b', b'.', answer, 0);
     }
     let state = loaded.state;
-    count_all(state, with_square);
+    count_all(rt, source, state, with_square)
 }
 
-// Whether the first argument is the word square. A longer one does not fit, and counts as empty.
-fn asks_square() -> bool {
+// Whether there is an argument i. One that does not fit the buffer is there too.
+fn has_argument(rt: &impl Env, i: usize) -> bool {
+    !matches!(rt.arg(i, &mut []), Err(FillError::NotPresent))
+}
+
+// Whether the first argument is the word square. A longer one does not fit.
+fn asks_square(rt: &impl Env) -> bool {
     let mut word = [0u8; 6];
-    let len = os::arg(1, &mut word);
-    (len == 6)
-        & (word[0] == b's')
-        & (word[1] == b'q')
-        & (word[2] == b'u')
-        & (word[3] == b'a')
-        & (word[4] == b'r')
-        & (word[5] == b'e')
+    match rt.arg(1, &mut word) {
+        Ok(len) => len == 6 && word == *b"square",
+        Err(_) => false,
+    }
 }
 
-fn main() {
-    let count = os::arg_count();
-    if count <= 1 {
-        report_table(false);
-        return;
+fn main(rt: HostRuntime) -> io::Result<()> {
+    let mut source = rt.stdin();
+    if !has_argument(&rt, 1) {
+        return report_table(&rt, &mut source, false);
     }
-    if (count == 2) & asks_square() {
-        report_table(true);
-        return;
+    if !has_argument(&rt, 2) && asks_square(&rt) {
+        return report_table(&rt, &mut source, true);
     }
-    io::write_all(STDERR_FILENO, b"usage: rackreport [square] < trace\n");
+    eprintln!(rt; "usage: rackreport [square] < trace")
 }
