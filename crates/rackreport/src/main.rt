@@ -211,12 +211,27 @@ fn count_all(
     print_report(rt, slots, ended, tally, square, with_square)
 }
 
-// The bytes of rack.tab, as many as there is room for; a file that cannot be opened or read counts as empty.
+// Reads until the buffer is full, the source ends or a read fails, and returns how many bytes came.
+fn read_some(source: &mut impl Read, buf: &mut [u8]) -> usize
+    ensures { result ≤ length buf.new }
+{
+    let mut len = 0;
+    while len < buf.len() {
+        let got = source.read(&mut buf[len..]).unwrap_or(0);
+        if got == 0 {
+            return len;
+        }
+        len += got;
+    }
+    len
+}
+
+// The bytes of rack.tab, as many as there is room for; a file that cannot be opened counts as empty.
 fn table_bytes(rt: &impl Files, file: &mut [u8]) -> usize
     ensures { result ≤ length file.new }
 {
     match fs::open(rt, "rack.tab") {
-        Ok(mut table) => read_full(&mut table, file).unwrap_or(0),
+        Ok(mut table) => read_some(&mut table, file),
         Err(_) => 0,
     }
 }

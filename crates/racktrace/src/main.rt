@@ -1,7 +1,7 @@
 // Runs a trace over the rack of the table rack.tab, and writes the listing.
 #![tactic(auto)]
 
-ghost use Rattle.std.specs.Prelude.{◌≤◌, IfOk, length};
+ghost use Rattle.std.specs.Prelude.{◌≤◌, length};
 
 use arbiter::RackState;
 use std::io::Read;
@@ -16,27 +16,27 @@ struct Turn {
     more: bool,
 }
 
-// Reads until the buffer is full or the source ends, and returns how many bytes came.
-fn read_full(source: &mut impl Read, buf: &mut [u8]) -> io::Result<usize>
-    ensures { IfOk result (λ n. n ≤ length buf.new) }
+// Reads until the buffer is full, the source ends or a read fails, and returns how many bytes came.
+fn read_some(source: &mut impl Read, buf: &mut [u8]) -> usize
+    ensures { result ≤ length buf.new }
 {
     let mut len = 0;
     while len < buf.len() {
-        let got = source.read(&mut buf[len..])?;
+        let got = source.read(&mut buf[len..]).unwrap_or(0);
         if got == 0 {
-            return Ok(len);
+            return len;
         }
         len += got;
     }
-    Ok(len)
+    len
 }
 
-// The bytes of rack.tab, as many as there is room for; a file that cannot be opened or read counts as empty.
+// The bytes of rack.tab, as many as there is room for; a file that cannot be opened counts as empty.
 fn table_bytes(rt: &impl Files, file: &mut [u8]) -> usize
     ensures { result ≤ length file.new }
 {
     match fs::open(rt, "rack.tab") {
-        Ok(mut table) => read_full(&mut table, file).unwrap_or(0),
+        Ok(mut table) => read_some(&mut table, file),
         Err(_) => 0,
     }
 }
