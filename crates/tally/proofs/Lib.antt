@@ -1,4 +1,5 @@
 pub mod Laws
+pub mod Long
 pub mod Effects
 pub mod Room
 pub mod Sums
