@@ -229,7 +229,7 @@ nothing_beyond = record {
   rack_settle = λ κ a r e p. (settling_bytes p).beyond;
   rack_table = λ κ a r e p. table_beyond p;
   run = λ κ a r e p. run_beyond p;
-  row_text_lem = λ κ a r e p. rw p.0 (behind (row_text a.0 a.1.0 a.1.1.0) _ _ _ refl p.1);
+  row_text = λ κ a r e p. rw p.0 (behind (row_text a.0 a.1.0 a.1.1.0) _ _ _ refl p.1);
 }
 
 pub refused_gives_zeros : RefusedGivesZeros

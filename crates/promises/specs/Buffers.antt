@@ -47,7 +47,7 @@ pub record NothingBeyond : Type 0 where
   pub rack_settle : Beyond laptop.rack_settle.Reads.Learnt (λ p. p.1.1.0.now) (λ r. 2 * suc (r % 256))
   pub rack_table : Beyond laptop.rack_table.Reads.Learnt (λ p. p.1.0.now) (λ r. 66)
   pub run : Beyond trace.run.Reads.Learnt (λ p. p.1.1.0.now) (λ r. r.written)
-  pub row_text_lem : Beyond report.row_text.Reads.Learnt (λ p. p.1.1.1.0.now) (λ r. r)
+  pub row_text : Beyond report.row_text.Reads.Learnt (λ p. p.1.1.1.0.now) (λ r. r)
 
 abbrev pub GivesWhere : {K A R E : Type 0} → (K → A → R → E → Type 0) → (R → Type 0) → (R → Type 0) → Type 0
 GivesWhere {K} {A} {R} {E} Admits Refuses Says = (κ : K) (a : A) (r : R) (e : E) → Admits κ a r e → Refuses r → Says r
