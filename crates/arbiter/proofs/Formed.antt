@@ -10,7 +10,7 @@ use borrow.Author.Tests.{ltb-true, lt-ltb, eqb-true, eqb-false, eq-eqb, ne_eqb}
 use Rattle.arbiter.proofs.Tests.{and_left, and_right, otherwise, both, if_so, or_so, replicate_default}
 use Rattle.arbiter.specs.State.{waits, count_of, in_batch, is_inhibited, is_card, mark_fits, sets_fit, mark_ok, sized_ok, last_ok, bus_ok, lines_of}
 use Rattle.arbiter.specs.State.{recount, well_formed, fresh_of}
-use Rattle.arbiter.specs.declared.RackState.{RackState}
+use Rattle.state.specs.declared.RackState.{RackState}
 use Rattle.cards.proofs.Below.{implied, le_or_lt, all_at, all_each}
 use Rattle.cards.proofs.Counted.{any_counted, count_nobody}
 use Rattle.cards.proofs.TableKnown.{table_known, card_range}

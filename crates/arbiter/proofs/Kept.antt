@@ -20,9 +20,9 @@ use Rattle.arbiter.proofs.Winner.{Won}
 use Rattle.arbiter.specs.Arbitrate.{some_preferred, batch_now, inhibited_now, value_now, some_loser_full, won_bus, inhibited_by, granted, event_of}
 use Rattle.arbiter.specs.Events.{requested, handed_on, released}
 use Rattle.arbiter.specs.State.{waits, count_of, in_batch, is_card, is_closed, holder_ok, lines_of, recount, well_formed}
-use Rattle.arbiter.specs.declared.Bus.{Bus}
-use Rattle.arbiter.specs.declared.Bus.TheVariants.{Free, Held, Elected}
-use Rattle.arbiter.specs.declared.RackState.{RackState}
+use Rattle.state.specs.declared.Bus.{Bus}
+use Rattle.state.specs.declared.Bus.TheVariants.{Free, Held, Elected}
+use Rattle.state.specs.declared.RackState.{RackState}
 use Rattle.cards.proofs.Below.{same_or_not}
 use Rattle.cards.proofs.Counted.{count_most, count_one_more}
 use Rattle.cards.proofs.TableKnown.{table_card, table_range}

@@ -13,15 +13,15 @@ use borrow.Author.Tests.{lt-ltb, leb-false, eqb-true, eq-eqb, ne_eqb}
 use Rattle.arbiter.proofs.Tests.{set_default}
 use Rattle.arbiter.specs.Arbitrate.{number_of, preferred, some_preferred, competes}
 use Rattle.arbiter.specs.Arbitrate.{competing_below, settling_of, some_loser_full, one_more, losers_counted, winner_stopped, counts_after, granted}
-use Rattle.arbiter.specs.Lent.{marks_of}
 use Rattle.arbiter.specs.State.{waits, count_of, lines_of}
-use Rattle.arbiter.specs.declared.RackState.{RackState}
+use Rattle.state.specs.declared.RackState.{RackState}
 use Rattle.cards.proofs.Below.{any_false, same_or_not, tabulate_alike, tabulate_at, tabulate-length}
-use Rattle.cards.specs.Below.{tabulate}
-use Rattle.rules.proofs.Laws.{lines_given_lem}
+use Rattle.cards.specs.Below.{any_below, tabulate}
+use Rattle.rules.proofs.Laws.{lines_given_lem, span_of_lem}
 use Rattle.rules.specs.Counts.{one_more_of, full_loser, grown_at, counts_grown}
 use Rattle.rules.specs.Marks.{is_in}
-use Rattle.contest.specs.Shown.{shown_at, shown_settling}
+use Rattle.rules.specs.Rules.{counts_losers, span_of}
+use Rattle.contest.specs.Shown.{marks_of, shown_at, shown_settling}
 use Rattle.lines.proofs.Silent.{Silent, none, kept, more, silent_append, Alike, result_silent}
 
 at_most_one : (b : Bool) (x : ℕ) → length (cond b (x ∷ []) []) ≤ 1
@@ -88,6 +88,12 @@ module _ (s : RackState) (w : ℕ) where
       go : (b : Bool) → length (cond b (tabulate 64 (one_more (winner_stopped s w) (set s.counts w 0))) (set s.counts w 0)) ≡ 64
       go true = tabulate-length 64 (one_more (winner_stopped s w) (set s.counts w 0))
       go false = length-set s.counts w 0 ∙ long
+
+-- the span is 2 to the number width, so that the test of a full count is the definition's
+pub full_lem : (s : RackState) (w : ℕ) → s.table.k ≤ 6
+    → some_loser_full s w ≡ (counts_losers s.table.rule && any_below 64 (full_loser (span_of s.table.k - 1) s.waiting s.counts w))
+unfolding some_loser_full
+full_lem s w small = rw (span_of_lem s.table.k small)
 
 -- where no loser's count is full, a loser's count under rule 2 is below 2 ^ k - 1
 pub not_full : (s : RackState) (w a : ℕ) → some_loser_full s w ≡ false → a < 64 → a ≢ w → s.table.rule ≡ 2 → waits s a ≡ true

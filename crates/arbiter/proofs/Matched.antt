@@ -17,11 +17,11 @@ use Rattle.arbiter.specs.Arbitrate.{number_of, competes, competing_below, compet
 use Rattle.arbiter.specs.Arbitrate.{arbitrated, arbitrate_refusal, arbitrate_of, event_of}
 use Rattle.arbiter.specs.Events.{answered, answered_by, request_refusal, release_refusal}
 use Rattle.arbiter.specs.State.{well_formed}
-use Rattle.arbiter.specs.declared.Outcome.{Outcome}
-use Rattle.arbiter.specs.declared.RackState.{RackState}
+use Rattle.arbiter.specs.Outcome.{Outcome}
+use Rattle.state.specs.declared.RackState.{RackState}
 use Rattle.lines.proofs.Matches.{equal_append, equal_one, equal_none}
 use Rattle.lines.specs.Settle.{equal_to}
-use Rattle.lines.specs.declared.Settled.{Settled}
+use Rattle.lines.specs.Settled.{Settled}
 
 module _ (s : RackState) (w : ℕ) (won : Won s w) where
   -- the card of a competing number is its remainder

@@ -13,8 +13,8 @@ use Rattle.arbiter.specs.Arbitrate.{winner_of, some_loser_full, won_by, arbitrat
 use Rattle.arbiter.specs.Events.{answered_by}
 use Rattle.arbiter.specs.Next.{next_refusal, told_by, next_by, next_of}
 use Rattle.arbiter.specs.State.{waits, is_closed, lines_of, well_formed, with_value}
-use Rattle.arbiter.specs.declared.NextWinner.{NextWinner}
-use Rattle.arbiter.specs.declared.RackState.{RackState}
+use Rattle.arbiter.specs.NextWinner.{NextWinner}
+use Rattle.state.specs.declared.RackState.{RackState}
 use Rattle.cards.specs.Below.{any_below}
 use Rattle.rules.proofs.Looks.{look_none, look_finds}
 use Rattle.rules.specs.Look.{look_down, look_round}

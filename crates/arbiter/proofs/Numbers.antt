@@ -14,13 +14,13 @@ use Rattle.arbiter.proofs.Laws.{competing_short}
 use Rattle.arbiter.proofs.Tests.{and_left}
 use Rattle.arbiter.specs.Arbitrate.{number_of, competes, competing_below, competing, settling_of, value_now}
 use Rattle.arbiter.specs.State.{waits, count_of, lines_of}
-use Rattle.arbiter.specs.declared.RackState.{RackState}
+use Rattle.state.specs.declared.RackState.{RackState}
 use Rattle.rules.specs.Rules.{by_rule, lines_by, number_by}
 use Rattle.lines.proofs.Refusal.{not_refused}
 use Rattle.lines.proofs.Stages.{settled-greatest}
 use Rattle.lines.specs.Greatest.{greatest}
 use Rattle.lines.specs.Settle.{refusal, done}
-use Rattle.lines.specs.declared.Settled.{Settled}
+use Rattle.lines.specs.Settled.{Settled}
 
 -- ---- who competes
 

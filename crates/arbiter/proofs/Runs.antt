@@ -3,7 +3,7 @@ use mathlib.Core.Bool.{cond}
 use mathlib.Core.List.{List, [], ◌∷◌, ◌++◌, append_assoc, append-nil}
 use mathlib.Core.Path.{◌≡◌, refl}
 use Rattle.arbiter.specs.Runs.{Event, next, winner, after, is_grant, grants}
-use Rattle.arbiter.specs.declared.RackState.{RackState}
+use Rattle.state.specs.declared.RackState.{RackState}
 
 pub after_more : (s : RackState) (es : List Event) (e : Event) → after s (es ++ (e ∷ [])) ≡ next (after s es) e
 unfolding after

@@ -13,8 +13,8 @@ use Rattle.arbiter.proofs.Winner.{Won, won, arbitrated_won}
 use Rattle.arbiter.specs.Arbitrate.{winner_of, some_loser_full, granted, won_by, arbitrated, arbitrate_refusal, arbitrate_of, event_of}
 use Rattle.arbiter.specs.Events.{answered, answered_by, requested, request_refusal, request_of, released, release_refusal, release_of}
 use Rattle.arbiter.specs.State.{waits, is_closed, is_holder, is_elected, well_formed}
-use Rattle.arbiter.specs.declared.Outcome.{Outcome}
-use Rattle.arbiter.specs.declared.RackState.{RackState}
+use Rattle.arbiter.specs.Outcome.{Outcome}
+use Rattle.state.specs.declared.RackState.{RackState}
 use Rattle.cards.specs.Table.{in_table}
 
 -- an event that grants nothing: the state it returns and its answer

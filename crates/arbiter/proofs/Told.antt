@@ -15,8 +15,8 @@ use Rattle.arbiter.proofs.Seen.{Seen, quiet, grant, seen}
 use Rattle.arbiter.specs.Arbitrate.{competing, settling_of, winner_of, some_loser_full, grant_to, won_by, has_winner, arbitrated, arbitrate_refusal, event_of}
 use Rattle.arbiter.specs.Events.{answered, answered_by, request_refusal, request_of, release_refusal, release_of}
 use Rattle.arbiter.specs.State.{waits, is_closed, is_holder, is_elected, lines_of, well_formed}
-use Rattle.arbiter.specs.declared.Outcome.{Outcome}
-use Rattle.arbiter.specs.declared.RackState.{RackState}
+use Rattle.arbiter.specs.Outcome.{Outcome}
+use Rattle.state.specs.declared.RackState.{RackState}
 use Rattle.cards.specs.Table.{in_table}
 use Rattle.lines.proofs.Matches.{equal_most}
 use Rattle.lines.proofs.Stages.{stages_le, settled-greatest}

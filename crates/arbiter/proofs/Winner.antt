@@ -12,13 +12,13 @@ use Rattle.arbiter.proofs.Numbers.{competitor_waits, wide, greatest_more, greate
 use Rattle.arbiter.specs.Arbitrate.{number_of, preferred, waits_preferred, some_preferred, competes}
 use Rattle.arbiter.specs.Arbitrate.{competing_below, competing, settling_of, value_now, winner_of, won_by, arbitrated}
 use Rattle.arbiter.specs.State.{waits, is_card, lines_of, well_formed}
-use Rattle.arbiter.specs.declared.RackState.{RackState}
+use Rattle.state.specs.declared.RackState.{RackState}
 use Rattle.cards.proofs.Below.{le_or_lt, any_not_none, none_any}
 use Rattle.cards.specs.Below.{any_below}
 use Rattle.rules.specs.Rules.{by_rule, goes_first}
 use Rattle.lines.proofs.Stages.{settled-greatest}
 use Rattle.lines.specs.Greatest.{greatest}
-use Rattle.lines.specs.declared.Settled.{Settled}
+use Rattle.lines.specs.Settled.{Settled}
 
 -- the rules under which each other card is granted at most once during a wait
 abbrev pub FairRule : ℕ → Type 0

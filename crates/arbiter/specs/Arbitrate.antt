@@ -2,17 +2,17 @@
 use Rattle.std.specs.Prelude.{ℕ, zero, suc, ◌+◌, ◌-◌, ◌^◌, ◌%◌, Bool, true, false, cond, not, ◌&&◌, ◌||◌, List, [], ◌∷◌, ◌++◌, leb, eqb, get_or, set}
 use Rattle.arbiter.specs.Events.{answered, answered_by, request_of, release_of}
 use Rattle.arbiter.specs.State.{waits, count_of, in_batch, is_inhibited, is_closed, lines_of, well_formed, with_marks, with_sets, with_bus, with_value}
-use Rattle.arbiter.specs.declared.Bus.{Bus}
-use Rattle.arbiter.specs.declared.Bus.TheVariants.{Free, Held, Elected}
-use Rattle.arbiter.specs.declared.Outcome.{Outcome}
-use Rattle.arbiter.specs.declared.RackState.{RackState}
+use Rattle.state.specs.declared.Bus.{Bus}
+use Rattle.state.specs.declared.Bus.TheVariants.{Free, Held, Elected}
+use Rattle.arbiter.specs.Outcome.{Outcome}
+use Rattle.state.specs.declared.RackState.{RackState}
 use Rattle.cards.specs.Below.{any_below, tabulate}
 use Rattle.rules.specs.Counts.{full_loser}
 use Rattle.rules.specs.Marks.{is_in}
 use Rattle.rules.specs.Rules.{number_by, goes_first, counts_losers, inhibits}
 use Rattle.rules.specs.Sets.{batch_anew, inhibited_anew}
 use Rattle.lines.specs.Settle.{refusal, settled_or}
-use Rattle.lines.specs.declared.Settled.{Settled}
+use Rattle.lines.specs.Settled.{Settled}
 
 -- the competing number of a waiting card a
 unfoldable pub number_of : RackState → ℕ → ℕ

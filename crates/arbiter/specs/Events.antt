@@ -1,10 +1,10 @@
 -- What a request and a release make of a state, as documents 01 and 02 have it. Assumes nothing.
 use Rattle.std.specs.Prelude.{ℕ, Bool, true, cond, not, ◌||◌, eqb, set}
 use Rattle.arbiter.specs.State.{waits, is_holder, is_elected, well_formed, with_marks, with_bus}
-use Rattle.arbiter.specs.declared.Bus.{Bus}
-use Rattle.arbiter.specs.declared.Bus.TheVariants.{Free, Held, Elected}
-use Rattle.arbiter.specs.declared.Outcome.{Outcome}
-use Rattle.arbiter.specs.declared.RackState.{RackState}
+use Rattle.state.specs.declared.Bus.{Bus}
+use Rattle.state.specs.declared.Bus.TheVariants.{Free, Held, Elected}
+use Rattle.arbiter.specs.Outcome.{Outcome}
+use Rattle.state.specs.declared.RackState.{RackState}
 use Rattle.cards.specs.Table.{in_table}
 use Rattle.rules.specs.Counts.{one_waits}
 

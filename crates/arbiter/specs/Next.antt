@@ -1,12 +1,9 @@
 -- Who is next under round-robin, found by looking and not by settling, as request A7 of document 02 has it. Assumes nothing.
-use Rattle.std.specs.Prelude.{ℕ, zero, suc, Bool, cond, not, List, ◌≡◌, eqb}
-use Rattle.arbiter.specs.Lent.{state_of, table_of}
+use Rattle.std.specs.Prelude.{ℕ, zero, suc, Bool, cond, not, eqb}
 use Rattle.arbiter.specs.State.{waits, is_closed, well_formed}
-use Rattle.arbiter.specs.declared.Hold.{Hold}
-use Rattle.arbiter.specs.declared.NextWinner.{NextWinner}
-use Rattle.arbiter.specs.declared.RackState.{RackState}
+use Rattle.arbiter.specs.NextWinner.{NextWinner}
+use Rattle.state.specs.declared.RackState.{RackState}
 use Rattle.rules.specs.Look.{look_round}
-use Rattle.rules.specs.Marks.{marks}
 use Rattle.rules.specs.Rules.{is_robin}
 
 -- 17, 32 if the rule is not round-robin, then 13 and 14 as in an arbitration
@@ -26,8 +23,3 @@ next_by formed s = told_by (next_refusal formed s) (look_round (waits s) s.table
 -- the answer of request A7: told the truth
 abbrev pub next_of : RackState → NextWinner
 next_of s = next_by (well_formed s) s
-
--- A look at lent marks. It looks at no slot, no count and no set, so it is as it says whatever those are.
-pub record Looks (formed : Bool) (k rule : ℕ) (waiting : List Bool) (hold : Hold) (r : NextWinner) : Type 0 where
-  pub told : (slots counts : List ℕ) (batch inhibited : List Bool)
-      → r ≡ next_by formed (state_of (table_of k rule slots) (marks waiting counts batch inhibited) hold)

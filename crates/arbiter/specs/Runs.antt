@@ -1,8 +1,8 @@
 -- A run of events: the state after them, and the grants among them. The trace, the tally and the promises speak of the same run. Assumes nothing.
 use Rattle.std.specs.Prelude.{ℕ, Bool, cond, List, [], ◌∷◌, ◌++◌, ltb}
 use Rattle.arbiter.specs.Arbitrate.{event_of}
-use Rattle.arbiter.specs.declared.Outcome.{Outcome}
-use Rattle.arbiter.specs.declared.RackState.{RackState}
+use Rattle.arbiter.specs.Outcome.{Outcome}
+use Rattle.state.specs.declared.RackState.{RackState}
 
 -- any event: any letter with any number
 pub record Event : Type 0 where

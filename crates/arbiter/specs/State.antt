@@ -1,8 +1,8 @@
 -- What a state says of each number, and which states are well formed, as documents 01 and 02 have it. Assumes nothing.
 use Rattle.std.specs.Prelude.{ℕ, ◌^◌, Bool, true, false, not, ◌&&◌, ◌||◌, List, ltb, eqb, length, get_or, replicate}
-use Rattle.arbiter.specs.declared.Bus.{Bus}
-use Rattle.arbiter.specs.declared.Bus.TheVariants.{Free, Held, Elected}
-use Rattle.arbiter.specs.declared.RackState.{RackState}
+use Rattle.state.specs.declared.Bus.{Bus}
+use Rattle.state.specs.declared.Bus.TheVariants.{Free, Held, Elected}
+use Rattle.state.specs.declared.RackState.{RackState}
 use Rattle.cards.specs.Below.{all_below, count_below}
 use Rattle.cards.specs.Table.{has_card, in_table, table_good}
 use Rattle.cards.specs.declared.Table.{Table}

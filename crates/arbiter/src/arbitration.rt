@@ -1,91 +1,70 @@
 // Arbitration: the settling of the competing cards, and the grant.
-ghost use Rattle.std.specs.Prelude.{ℕ, ◌≤◌, ◌<◌, not, List, ◌≡◌};
+ghost use Rattle.std.specs.Prelude.{◌%◌, ◌^◌, ◌≤◌, ◌<◌, not, MatchOption, Ok, ◌≡◌};
 ghost use Rattle.arbiter.specs.Arbitrate.{arbitrated, some_preferred, value_now, won_by};
-ghost use Rattle.arbiter.specs.Lent.{state_of, table_of, Leaves};
-ghost use Rattle.arbiter.specs.declared.RackState.{RackState};
-ghost use Rattle.rules.specs.Marks.{marks};
+ghost use Rattle.arbiter.specs.Outcome.{as_outcome};
+ghost use Rattle.lines.specs.Settled.{as_settled};
 
-use super::answers::quiet;
+use super::Reported;
 use super::marks::won_bus;
 use super::sets::inhibit;
-use super::{Hold, Reply};
 use contest::{settling_of, some_first};
-use lines::Settled;
+use lines::Settling;
+use refusals::Refusal;
 use rules::{clear_inhibitions, grow_counts, renew_batch, some_loser_full, span};
+use state::RackState;
 
-// The outcome where w wins with these settled lines, on the lent marks: refusal 16, or the grant, which on a held bus is an election.
-pub(crate) fn granted_in(
-    k: u8,
-    rule: u8,
-    waiting: &mut [bool; 64],
-    counts: &mut [u8; 64],
-    batch: &mut [bool; 64],
-    inhibited: &mut [bool; 64],
-    hold: Hold,
-    anew: bool,
-    w: u8,
-    t: Settled,
-) -> Reply
-    requires { (w < 64) × ((k ≤ 6) × (0 < hold.waiters)) }
-    ensures { (slots : List ℕ) (s : RackState)
-        → s ≡ state_of (table_of k rule slots) (marks waiting.old counts.old batch.old inhibited.old) hold
-        → anew ≡ not (some_preferred s)
-        → t.lines ≡ value_now s
-        → Leaves (won_by s w t) result (marks waiting.new counts.new batch.new inhibited.new) }
+// The outcome where w wins with these settled lines: refused where a loser's count is full. Else w stops waiting, its count becomes 0, it leaves the
+// batch, is the last winner, and holds a free bus or is elected.
+fn won(s: &mut RackState, anew: bool, w: u8, t: Settling) -> Result<Reported, Refusal>
+    requires { ((w < 64) × ((s.old.table.k ≤ 6) × (0 < s.old.waiters)))
+        × ((anew ≡ not (some_preferred s.old)) × (t.lines ≡ value_now s.old)) }
+    ensures { as_outcome s.new result ≡ won_by s.old w (as_settled (Ok t)) }
 {
-    if some_loser_full(k, rule, waiting, counts, w) {
-        return quiet(hold, 16);
+    let rule = s.table.rule;
+    if some_loser_full(s.table.k, rule, &s.waiting, &s.counts, w) {
+        return Err(Refusal::FullLoser);
     }
-    renew_batch(rule, anew, waiting, batch);
-    clear_inhibitions(rule, anew, inhibited);
-    let waiters = hold.waiters - 1;
-    let i = w as usize;
-    waiting[i] = false;
-    counts[i] = 0;
-    batch[i] = false;
-    inhibit(rule, inhibited, w);
-    let before = hold.bus;
-    let bus = won_bus(before, w);
-    grow_counts(rule, waiting, counts);
-    Reply {
-        hold: Hold {
-            last: w,
-            bus,
-            value: t.lines,
-            waiters,
-        },
-        answer: 0,
+    renew_batch(rule, anew, &s.waiting, &mut s.batch);
+    clear_inhibitions(rule, anew, &mut s.inhibited);
+    let i = usize::from(w);
+    s.waiting[i] = false;
+    s.counts[i] = 0;
+    s.batch[i] = false;
+    inhibit(rule, &mut s.inhibited, w);
+    s.last = w;
+    s.bus = won_bus(s.bus, w);
+    s.waiters -= 1;
+    s.value = t.lines;
+    grow_counts(rule, &s.waiting, &mut s.counts);
+    Ok(Reported {
         winner: w,
         lines: t.lines,
         stages: t.stages,
         matches: t.matches,
-    }
+    })
 }
 
-// The outcome of the settling, which starts from the kept value, on the lent marks. The winner is the settled value modulo 2 ^ k. A state whose
-// settling is refused, or names no card, is not well formed.
-pub(crate) fn arbitrated_in(
-    hold: Hold,
-    k: u8,
-    rule: u8,
-    waiting: &mut [bool; 64],
-    counts: &mut [u8; 64],
-    batch: &mut [bool; 64],
-    inhibited: &mut [bool; 64],
-) -> Reply
-    requires { (k ≤ 6) × (0 < hold.waiters) }
-    ensures { (slots : List ℕ)
-        → Leaves (arbitrated (state_of (table_of k rule slots)
-        (marks waiting.old counts.old batch.old inhibited.old) hold)) result
-        (marks waiting.new counts.new batch.new inhibited.new) }
+// The card that settled lines name: their value modulo 2 ^ k, where that is not 0, which is no card's number.
+#[tactic(auto, using(rules::proofs::Laws::span_of_lem))]
+fn card_named(k: u8, lines: u16) -> Option<u8>
+    requires { k ≤ 6 }
+    ensures { MatchOption result (lines % 2 ^ k ≡ 0) (λ w. (w ≡ lines % 2 ^ k) × ((0 < w) × (w < 64))) }
 {
-    let anew = !some_first(rule, waiting, batch, inhibited);
-    let t = settling_of(
-        k, rule, hold.last, hold.value, anew, waiting, counts, batch, inhibited,
-    );
-    let w = (t.lines % span(k)) as u8;
-    if (t.answer != 0) | (w == 0) {
-        return quiet(hold, 17);
-    }
-    granted_in(k, rule, waiting, counts, batch, inhibited, hold, anew, w, t)
+    let w = (lines % span(k)) as u8;
+    (w != 0).then_some(w)
+}
+
+// The outcome of the settling, which starts from the kept value. A state whose settling is refused, or names no card, is not well formed.
+pub(crate) fn arbitrated(s: &mut RackState) -> Result<Reported, Refusal>
+    requires { (s.old.table.k ≤ 6) × (0 < s.old.waiters) }
+    ensures { as_outcome s.new result ≡ arbitrated s.old }
+{
+    let anew = !some_first(s);
+    let Ok(t) = settling_of(s, anew) else {
+        return Err(Refusal::NotWellFormed);
+    };
+    let Some(w) = card_named(s.table.k, t.lines) else {
+        return Err(Refusal::NotWellFormed);
+    };
+    won(s, anew, w, t)
 }

@@ -4,11 +4,10 @@ use native.Mathlib.Omega.{arith}
 use mathlib.Core.Bool.{Bool, true, false}
 use mathlib.Core.List.{List}
 use mathlib.Core.Path.{◌≡◌, refl}
+use Rattle.std.proofs.Common.{Option, Some, None}
 use Rattle.cardfile.specs.Format.{header_of, ranges_good, directory_good, column_of, ANUM, SLOT, cards_good, filled_of}
 use Rattle.cardfile.specs.Format.{refuse_unless, refused_with, cards_of, columns_found, columns_read, directory_part, record_part, header_read, load_table_of}
-use Rattle.cardfile.specs.declared.Column.{Column}
-use Rattle.cardfile.specs.declared.Column.TheVariants.{At, Absent}
-use Rattle.cardfile.specs.declared.LoadedTable.{LoadedTable}
+use Rattle.cardfile.specs.LoadedTable.{LoadedTable}
 
 abbrev pub entries_of : List ℕ → List ℕ
 entries_of file = directory_part (header_of file) file
@@ -22,8 +21,8 @@ pub record Done (file : List ℕ) (l : LoadedTable) : Type 0 where
   pub slot : ℕ
   pub ranges : ranges_good (header_of file) ≡ true
   pub entries : directory_good (entries_of file) (header_of file).length (header_of file).columns ≡ true
-  pub anum_found : column_of (entries_of file) ANUM (header_of file).columns ≡ At anum
-  pub slot_found : column_of (entries_of file) SLOT (header_of file).columns ≡ At slot
+  pub anum_found : column_of (entries_of file) ANUM (header_of file).columns ≡ Some anum
+  pub slot_found : column_of (entries_of file) SLOT (header_of file).columns ≡ Some slot
   pub good : cards_good (records_of file) (header_of file) anum slot ≡ true
   pub its_table : l.table ≡ record {
     k = (header_of file).width;
@@ -39,12 +38,12 @@ module _ (file : List ℕ) where
   passed false n next some done then = absurd (omega arith)
 
   columns_done : ranges_good (header_of file) ≡ true → directory_good (entries_of file) (header_of file).length (header_of file).columns ≡ true
-      → (anum slot : Column) → column_of (entries_of file) ANUM (header_of file).columns ≡ anum
+      → (anum slot : Option ℕ) → column_of (entries_of file) ANUM (header_of file).columns ≡ anum
       → column_of (entries_of file) SLOT (header_of file).columns ≡ slot
       → (columns_found anum slot (records_of file) (header_of file)).answer ≡ 0
       → Done file (columns_found anum slot (records_of file) (header_of file))
   unfolding columns_found refused_with cards_of
-  columns_done ranges entries (At anum) (At slot) a-found s-found done =
+  columns_done ranges entries (Some anum) (Some slot) a-found s-found done =
       passed (cards_good (records_of file) (header_of file) anum slot) 7 _ (omega arith) done
       (λ good _. record {
         anum = anum;
@@ -56,8 +55,8 @@ module _ (file : List ℕ) where
         good = good;
         its_table = refl;
       })
-  columns_done ranges entries (At anum) Absent a-found s-found done = absurd (omega arith)
-  columns_done ranges entries Absent slot a-found s-found done = absurd (omega arith)
+  columns_done ranges entries (Some anum) None a-found s-found done = absurd (omega arith)
+  columns_done ranges entries None slot a-found s-found done = absurd (omega arith)
 
   pub load_done : (load_table_of file).answer ≡ 0 → Done file (load_table_of file)
   unfolding load_table_of header_read columns_read

@@ -10,14 +10,13 @@ use lib.Dec.{eqb}
 use lib.ListN.{get_or}
 use lib.Pow.{pow_mono}
 use borrow.Author.Tests.{leb-true, le-leb, ne_eqb, eq-eqb}
+use Rattle.std.proofs.Common.{Option, Some, None}
 use Rattle.cardfile.proofs.Done.{records_of, load_done}
 use Rattle.cardfile.proofs.Filled.{Checked, checked, filled, slots_length, From, from, all_counted}
 use Rattle.cardfile.specs.Format.{ranges_good, value_at, cards_good, filled_of}
 use Rattle.cardfile.specs.Format.{refuse_unless, refused_with, cards_of, columns_found, columns_read, header_read, header_of, load_table_of}
-use Rattle.cardfile.specs.declared.Column.{Column}
-use Rattle.cardfile.specs.declared.Column.TheVariants.{At, Absent}
 use Rattle.cardfile.specs.declared.Header.{Header}
-use Rattle.cardfile.specs.declared.LoadedTable.{LoadedTable}
+use Rattle.cardfile.specs.LoadedTable.{LoadedTable}
 use Rattle.cards.proofs.Below.{all_each}
 use Rattle.cards.specs.Table.{table_good, number_good, slots_good, slot_is_new}
 
@@ -99,11 +98,11 @@ module _ where
   zero_or true n next then = then
   zero_or false n next then = λ _. refl
 
-  zero_columns : (number slot : Column) (records : List ℕ) (h : Header) → Zero (columns_found number slot records h)
+  zero_columns : (number slot : Option ℕ) (records : List ℕ) (h : Header) → Zero (columns_found number slot records h)
   unfolding columns_found refused_with cards_of
-  zero_columns (At number) (At slot) records h = zero_or (cards_good records h number slot) 7 _ (λ some. absurd (some refl))
-  zero_columns (At number) Absent records h = λ _. refl
-  zero_columns Absent slot records h = λ _. refl
+  zero_columns (Some number) (Some slot) records h = zero_or (cards_good records h number slot) 7 _ (λ some. absurd (some refl))
+  zero_columns (Some number) None records h = λ _. refl
+  zero_columns None slot records h = λ _. refl
 
   pub refused_zero : (file : List ℕ) → (load_table_of file).answer ≢ 0 → (load_table_of file).table ≡ (refused_with 0).table
   unfolding load_table_of header_read columns_read

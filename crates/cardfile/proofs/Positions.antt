@@ -8,11 +8,11 @@ use lib.ListN.{get_or}
 use lib.Pow.{pow_mono}
 use lib.Seq.{get_or-take, get_or-drop}
 use borrow.Author.Tests.{leb-true}
+use Rattle.std.proofs.Common.{Some}
 use Rattle.cardfile.proofs.Done.{entries_of, records_of, load_done}
 use Rattle.cardfile.proofs.Filled.{checked, each_there, none_else, all_counted}
 use Rattle.cardfile.proofs.Laws.{column_found, entry_good_lem, same_name, width_known}
 use Rattle.cardfile.specs.Format.{word_of, header_of, name_at, name_byte_good, name_good, entry_good, directory_good, value_at, column_of, ANUM, SLOT, load_table_of}
-use Rattle.cardfile.specs.declared.Column.TheVariants.{At}
 use Rattle.cardfile.specs.Positions.{of_entry, of_record, HasColumn, ReadFrom}
 use Rattle.cards.proofs.Below.{all_at}
 use Rattle.cards.specs.Table.{between}
@@ -70,7 +70,7 @@ module _ (file : List ℕ) where
             entry_byte j 3 (6 * j + 2 + 1) listed (omega arith) (omega arith),
           ))
 
-      has_column : (offset : ℕ) → column_of (entries_of file) name (header_of file).columns ≡ At offset → HasColumn file a b c d offset
+      has_column : (offset : ℕ) → column_of (entries_of file) name (header_of file).columns ≡ Some offset → HasColumn file a b c d offset
       unfolding header_of
       has_column offset found =
           let f = column_found (entries_of file) name offset (header_of file).columns found in

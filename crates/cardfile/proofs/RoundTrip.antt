@@ -14,7 +14,7 @@ use Rattle.cardfile.specs.Format.{header_of, ranges_good, layout_good, name_byte
 use Rattle.cardfile.specs.Format.{value_at, column_within, column_distinct, cards_good, filled_of}
 use Rattle.cardfile.specs.Format.{refuse_unless, cards_of, columns_found, columns_read, header_read, load_table_of}
 use Rattle.cardfile.specs.declared.Header.{Header}
-use Rattle.cardfile.specs.declared.LoadedTable.{LoadedTable}
+use Rattle.cardfile.specs.LoadedTable.{LoadedTable}
 use Rattle.cards.proofs.Below.{all_at, all_each}
 use Rattle.cards.proofs.SavingLaws.{cards_length, saved_length_lem}
 use Rattle.cards.proofs.TableKnown.{has_slot, number_known, no_more_cards, table_known}

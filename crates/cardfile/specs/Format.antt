@@ -1,9 +1,7 @@
 -- The card table on file, and what a load makes of it, as document 01 has it. Assumes nothing.
-use Rattle.std.specs.Prelude.{ℕ, zero, suc, ◌+◌, ◌*◌, ◌-◌, ◌^◌, Bool, not, cond, ◌&&◌, ◌||◌, List, [], ◌∷◌, leb, eqb, length, get_or, take, drop, set, replicate}
-use Rattle.cardfile.specs.declared.Column.{Column}
-use Rattle.cardfile.specs.declared.Column.TheVariants.{At, Absent}
+use Rattle.std.specs.Prelude.{ℕ, zero, suc, ◌+◌, ◌*◌, ◌-◌, ◌^◌, Bool, not, cond, ◌&&◌, ◌||◌, List, [], ◌∷◌, leb, eqb, length, get_or, take, drop, set, replicate, Option, Some, None}
 use Rattle.cardfile.specs.declared.Header.{Header}
-use Rattle.cardfile.specs.declared.LoadedTable.{LoadedTable}
+use Rattle.cardfile.specs.LoadedTable.{LoadedTable}
 use Rattle.cards.specs.Below.{all_below}
 use Rattle.cards.specs.Table.{between}
 
@@ -76,11 +74,11 @@ unfoldable pub directory_good : List ℕ → ℕ → ℕ → Bool
 directory_good d size columns = all_below columns (λ j. entry_good d size j && name_is_new d j)
 
 -- 6: absent, or not of width 1. A column is found by its name among the first entries
-abbrev pub column_at : List ℕ → ℕ → Column
-column_at d j = cond (eqb (width_at d j) 1) (At (offset_at d j)) Absent
+abbrev pub column_at : List ℕ → ℕ → Option ℕ
+column_at d j = cond (eqb (width_at d j) 1) (Some (offset_at d j)) None
 
-unfoldable pub column_of : List ℕ → ℕ → ℕ → Column
-column_of d name zero = Absent
+unfoldable pub column_of : List ℕ → ℕ → ℕ → Option ℕ
+column_of d name zero = None
 column_of d name (suc j) = cond (eqb (name_at d j) name) (column_at d j) (column_of d name j)
 
 -- the names of the two columns that are required
@@ -135,10 +133,10 @@ cards_of records h number slot =
     (record { answer = 0; table = record { k = h.width; rule = h.rule; slots = filled_of records h.length number slot h.cards } })
 
 -- 6, or what the two columns hold
-unfoldable pub columns_found : Column → Column → List ℕ → Header → LoadedTable
-columns_found (At number) (At slot) records h = cards_of records h number slot
-columns_found (At number) Absent records h = refused_with 6
-columns_found Absent c records h = refused_with 6
+unfoldable pub columns_found : Option ℕ → Option ℕ → List ℕ → Header → LoadedTable
+columns_found (Some number) (Some slot) records h = cards_of records h number slot
+columns_found (Some number) None records h = refused_with 6
+columns_found None c records h = refused_with 6
 
 -- 5 to 7: the record part, with the directory beside it
 unfoldable pub columns_read : List ℕ → List ℕ → Header → LoadedTable

@@ -1,7 +1,5 @@
 -- Laws of what is shown, which the proofs of the contest cite. Assumes nothing.
-use Prim.Native.Nat.{ℕ, ◌*◌, ◌≤◌, ◌<◌}
-use native.Mathlib.Nat.{mul-le-mul}
-use native.Mathlib.Omega.{arith}
+use Prim.Native.Nat.{ℕ, ◌≤◌, ◌<◌}
 use mathlib.Core.Bool.{Bool, true, false, cond}
 use mathlib.Core.List.{List}
 use mathlib.Core.Logic.{◌⊎◌, inl, inr}
@@ -18,10 +16,6 @@ pub nothing_shown : (b : Bool) (k rule last count a : ℕ) → (rule ≡ 0 → �
 unfolding number_by
 nothing_shown true k rule last count a p q r u v = sym (other_rule {A = ℕ} rule _ _ _ _ _ 0 p q r u v)
 nothing_shown false k rule last count a p q r u v = refl
-
--- a product of a span and a count
-pub product_small : (x y : ℕ) → x ≤ 64 → y < 256 → x * y ≤ 16320
-product_small x y h l = let l' : y ≤ 255 = omega arith in mul-le-mul h l'
 
 -- on no lines every list is refused, so that what is shown matters only for a width of at most 6
 pub settled_as_shown : (k rule : ℕ) (numbers shown : List ℕ) (start : ℕ) → (k ≤ 6 → numbers ≡ shown)

@@ -9,8 +9,8 @@ use lib.ListN.{drop, replicate}
 use Rattle.arbiter.specs.Arbitrate as arbitrate
 use Rattle.arbiter.specs.Events.{answered_by, request_refusal, release_refusal}
 use Rattle.arbiter.specs.State.{count_of, well_formed, mark_fits, sets_fit, fresh_of}
-use Rattle.arbiter.specs.declared.Bus.TheVariants.{Free}
-use Rattle.arbiter.specs.declared.RackState.{RackState}
+use Rattle.state.specs.declared.Bus.TheVariants.{Free}
+use Rattle.state.specs.declared.RackState.{RackState}
 use Rattle.cardfile.specs.Format as format
 use Rattle.cards.specs.Below as below
 use Rattle.cards.specs.Table as table

@@ -3,7 +3,7 @@
 use Rattle.std.specs.Prelude.{ℕ, List, [], ◌∷◌, ◌++◌, replicate}
 use Rattle.arbiter.specs.Arbitrate.{competing, settling_of}
 use Rattle.arbiter.specs.State.{waits, count_of, lines_of, with_value, fresh_of}
-use Rattle.arbiter.specs.declared.RackState.{RackState}
+use Rattle.state.specs.declared.RackState.{RackState}
 use Rattle.cards.specs.Below.{rows_below}
 use Rattle.cards.specs.declared.Table.{Table}
 use Rattle.lines.specs.Known.{Known, row_from, row}

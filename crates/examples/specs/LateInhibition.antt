@@ -3,7 +3,7 @@
 use Rattle.std.specs.Prelude.{ℕ, Bool, true, cond, List, [], ◌∷◌, ◌++◌, ◌≡◌, eqb}
 use Rattle.arbiter.specs.Arbitrate.{inhibited_now, inhibited_by, by_letter}
 use Rattle.arbiter.specs.State.{waits, with_sets}
-use Rattle.arbiter.specs.declared.RackState.{RackState}
+use Rattle.state.specs.declared.RackState.{RackState}
 use Rattle.promises.specs.Runs.{Event, outcome_of, next, winner, is_grant}
 
 -- a done arbitration clears inhibitions where it must, and sets none; a done release inhibits its card

@@ -1,7 +1,7 @@
 -- What the entry for C that gives a file's table answers and leaves in the lent buffer, for every input. Assumes nothing.
 use Rattle.std.specs.Prelude.{ℕ, cond, List, ◌∷◌, ◌++◌, ◌≡◌, leb, eqb, length, drop}
 use Rattle.cardfile.specs.Format.{load_table_of}
-use Rattle.cardfile.specs.declared.LoadedTable.{LoadedTable}
+use Rattle.cardfile.specs.LoadedTable.{LoadedTable}
 use Rattle.cards.specs.declared.Table.{Table}
 
 -- k, the rule and the 64 slots by number: 66 bytes

@@ -1,12 +1,6 @@
--- Numbers of 16 bits as bytes, two for each, low byte first. Assumes nothing.
+-- Numbers of 16 bits as bytes, two for each, low byte first. The numbers that bytes hold are `words`, of the crate lines. Assumes nothing.
 use Rattle.std.specs.Prelude.{ℕ, ◌/◌, ◌%◌, List, [], ◌∷◌}
-use Rattle.cardfile.specs.Format.{word_of}
-
--- the numbers that bytes hold; an odd last byte is passed over
-unfoldable pub words : List ℕ → List ℕ
-words [] = []
-words (low ∷ []) = []
-words (low ∷ high ∷ rest) = word_of low high ∷ words rest
+pub use Rattle.lines.specs.Words.{words}
 
 -- the bytes that hold numbers
 unfoldable pub bytes : List ℕ → List ℕ

@@ -5,14 +5,12 @@ ghost use Rattle.laptop.specs.Table.{table_bytes};
 use cards::Table;
 
 // Writes k, the rule and the 64 slots by number to the front of a buffer.
+#[tactic(auto, using(crate::proofs::TableBytes::table_put))]
 pub(crate) fn put_table(t: Table, out: &mut [u8])
     requires { 66 ≤ length out.old }
     ensures { out.new ≡ table_bytes t ++ drop 66 out.old }
 {
-    let slots = t.slots;
     out[0] = t.k;
     out[1] = t.rule;
-    for a in 0..64usize {
-        out[a + 2] = slots[a];
-    }
+    out[2..66].copy_from_slice(&t.slots);
 }

@@ -2,11 +2,21 @@
 use Prim.Native.Nat.{ℕ, zero, suc, ◌+◌, ◌^◌, ◌<◌}
 use native.Mathlib.Nat.{pow-suc}
 use native.Mathlib.Omega.{arith}
-use mathlib.Core.Path.{refl}
+use mathlib.Core.Path.{◌≡◌, refl, ap}
+use Rattle.std.proofs.Common.{Result, Ok, Err}
+use denote.Param.Laws.{Laws, IsCopy}
+use denote.RattleType.{RattleType}
+use mir.Syntax.{Dict}
 use Rattle.lines.proofs as lines
 use Rattle.lines.specs.contracts as contracts
+use Rattle.lines.specs.Settled.{Settled, as_settled}
+use Rattle.lines.specs.declared.Settling.{Settling}
+use Rattle.lines.specs.declared.entry.Entry as entry
 use Rattle.one_result.proofs.Laws.{one_result}
 use Rattle.one_result.specs.Determined.{Determined}
+use Rattle.refusals.proofs.Laws.{one_of_none, one_refusal, some_number}
+use Rattle.refusals.specs.declared.Refusal.{Refusal}
+use Rattle.std.specs.declared.clone.Clone as clone
 
 -- n lines are wide enough for n
 wide : (n : ℕ) → n < 2 ^ n
@@ -19,8 +29,23 @@ applied_by_determined κ (carried, (own, none)) x y b c p q =
     let enough : carried + own < 2 ^ (carried + own) = wide (carried + own) in
     (one_result (p (carried + own) (omega arith) (omega arith)) (q (carried + own) (omega arith) (omega arith)), refl)
 
-pub refusal_of_size_determined : Determined contracts.refusal_of_size.ended lines.refusal_of_size.Reads.Learnt
-refusal_of_size_determined κ a x y b c p q = (one_result p q, refl)
+pub check_size_determined : Determined contracts.check_size.ended lines.check_size.Reads.Learnt
+check_size_determined κ a x y b c p q = (one_of_none x y (one_result p q), refl)
+
+-- a settling is known by what it answers
+pub one_settled : (r q : Result Settling Refusal) → as_settled r ≡ as_settled q → r ≡ q
+one_settled (Ok s) (Ok t) e = λ i. Ok (record { lines = (e i).lines; stages = (e i).stages; matches = (e i).matches })
+one_settled (Ok s) (Err why) e = absurd (omega (arith, some_number why, ap (λ (x : Settled). x.answer) e))
+one_settled (Err why) (Ok t) e = absurd (omega (arith, some_number why, ap (λ (x : Settled). x.answer) e))
+one_settled (Err why) (Err other) e = ap Err (one_refusal (ap (λ (x : Settled). x.answer) e))
+
+pub settle_in_determined : (E : RattleType) (laws : Laws E) (copy : IsCopy E) (entry : entry.Ghosts E.Denot) (entry_dict : Dict)
+    (clone : clone.Ghosts E.Denot) (clone_dict : Dict)
+    → Determined (contracts.settle_in.ended E entry entry_dict clone clone_dict)
+    (lines.settle_in.Reads.Learnt E laws copy entry entry_dict clone clone_dict)
+settle_in_determined E laws copy entry entry_dict clone clone_dict κ a x y b c p q =
+    (one_settled x y (one_result p.result q.result), λ i. (tt, (tt, (tt, (one_result p.left q.left i, tt)))))
 
 pub settle_determined : Determined contracts.settle.ended lines.settle.Reads.Learnt
-settle_determined κ a x y b c p q = (one_result p.result q.result, λ i. (tt, (tt, (tt, (one_result p.left q.left i, tt)))))
+settle_determined κ a x y b c p q =
+    (one_settled x y (one_result p.result q.result), λ i. (tt, (tt, (tt, (one_result p.left q.left i, tt)))))

@@ -16,3 +16,4 @@ pub mod Silent
 pub mod Smear
 pub mod Determined
 pub mod Matches
+pub mod Words

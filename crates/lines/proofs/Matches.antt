@@ -49,3 +49,6 @@ module _ (value : ℕ) (numbers : List ℕ) (i : ℕ) where
 pub matches_greatest : (m : ℕ) (numbers : List ℕ) (start : ℕ) → greatest numbers < 2 ^ m → start < 2 ^ m
     → (done m numbers start).matches ≡ equal_to (greatest numbers) numbers
 matches_greatest m numbers start fits small = ap (λ (value : ℕ). equal_to value numbers) (settled-greatest m numbers start fits small)
+
+-- the steps of a count from the front
+pub ruleset counting = (equal_more, equal_most, equal_end)

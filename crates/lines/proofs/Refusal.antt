@@ -3,17 +3,16 @@ use Prim.Native.Nat.{ℕ, zero, suc, ◌+◌, ◌-◌, ◌*◌, ◌%◌, ◌^◌
 use native.Mathlib.Nat.{one-mul}
 use native.Mathlib.Numerals.{add-one}
 use native.Mathlib.Omega.{arith}
-use mathlib.Core.Bool.{Bool, true, false, cond, ◌||◌, true≢false}
+use mathlib.Core.Bool.{Bool, true, false, cond, ◌||◌, or-true, true≢false}
 use mathlib.Core.List.{List, [], ◌∷◌}
 use mathlib.Core.Path.{◌≡◌, refl, sym, ap, ◌∙◌}
 use lib.Dec.{leb, ltb, eqb, lit<}
 use lib.ListN.{length, get_or, drop, replicate, drop_of_length-le, length-replicate}
-use lib.Pow.{pow_mono, pow_pos, shl_exact}
+use lib.Pow.{pow_pos, shl_exact}
 use lib.Seq.{drop-cons}
-use borrow.Author.Tests.{le-leb, lt-leb, leb-false, lt-ltb, le-ltb, ltb-false, ne_eqb}
+use borrow.Author.Tests.{lt-leb, leb-false, lt-ltb, le-ltb, ltb-false, ne_eqb}
 use Rattle.lines.specs.Greatest.{greatest}
-use Rattle.lines.specs.Settle.{some_from, refusal, Accepted, Settles, Ran}
-use Rattle.lines.specs.declared.Settled.{Settled}
+use Rattle.lines.specs.Settle.{some_from, refusal, Accepted}
 
 module _ (limit : ℕ) (numbers : List ℕ) (i : ℕ) where
   pub from_more : (b : Bool) → i < length numbers
@@ -25,6 +24,9 @@ module _ (limit : ℕ) (numbers : List ℕ) (i : ℕ) where
   pub from_end : length numbers ≤ i → some_from limit (drop i numbers) ≡ false
   unfolding some_from
   from_end all = ap (some_from limit) (drop_of_length-le numbers all)
+
+-- the steps of a search from the front
+pub ruleset searching = (from_more, from_end)
 
 -- neither of two tests holds
 neither : (a b : Bool) → (a || b) ≡ false → (a ≡ false) × (b ≡ false)
@@ -65,13 +67,6 @@ at_most m rest e = ltb-false 12 m (neither (eqb m 0) (ltb 12 m) (passed (eqb m 0
 abbrev pub limit_of : ℕ → ℕ
 limit_of m = 1 * 2 ^ m % 2 ^ 16
 
--- what is refused behind the numbers, for the room and then the start
-abbrev left_over : ℕ → ℕ → ℕ → ℕ
-left_over m start room = cond (leb room m) 24 (cond (ltb (limit_of m - 1) start) 25 0)
-
-abbrev pub Past : ℕ → List ℕ → Type 0
-Past m numbers = (start room : ℕ) → refusal m numbers start room ≡ left_over m start room
-
 -- what is refused for m and the count of the numbers, whatever they are
 pub size_is : (m count : ℕ) → refusal m (replicate count 0) 0 (suc m) ≡ cond (eqb m 0 || ltb 12 m) 21 (cond (ltb 64 count) 22 0)
 unfolding refusal
@@ -107,45 +102,25 @@ module _ (m : ℕ) (numbers : List ℕ) (size : ℕ) (is : size ≡ refusal m (r
     pub limit_some : 1 ≤ limit_of m
     limit_some = omega (arith, power, pow_pos m)
 
-    -- the search for a number that is too great, and what is left behind it
-    size_passed : (found : Bool) → some_from (limit_of m) numbers ≡ found → (start room : ℕ)
-        → refusal m numbers start room ≡ cond found 23 (left_over m start room)
+    -- what is left of the definition behind the size
+    pub behind_size : (start room : ℕ)
+        → refusal m numbers start room ≡ cond (some_from (limit_of m) numbers) 23 (cond (leb room m) 24 (cond (ltb (limit_of m - 1) start) 25 0))
     unfolding refusal
-    size_passed found searched start room =
-        let over : some_from (2 ^ m) numbers ≡ found = sym (ap (λ (limit : ℕ). some_from limit numbers) power) ∙ searched in
+    behind_size start room =
         rw (
           passed (eqb m 0 || ltb 12 m) 20 _ nothing,
           passed (ltb 64 (length numbers)) 21 _ (after (eqb m 0 || ltb 12 m) 20 _ nothing),
           power,
-          over,
         )
 
-    -- what is left of the definition behind the size
-    pub behind_size : (start room : ℕ)
-        → refusal m numbers start room ≡ cond (some_from (limit_of m) numbers) 23 (cond (leb room m) 24 (cond (ltb (limit_of m - 1) start) 25 0))
-    behind_size start room = size_passed (some_from (limit_of m) numbers) refl start room
+-- more lines than a byte counts are refused, whatever else is lent
+pub wide_refused : (m : ℕ) (numbers : List ℕ) (start room : ℕ) → (m < 256 → ⊥) → 21 ≡ refusal m numbers start room
+unfolding refusal
+wide_refused m numbers start room wide =
+    rw (lt-ltb 12 m (omega (arith, wide)), or-true (eqb m 0))
 
-    pub number_refused : some_from (limit_of m) numbers ≡ true → (start room : ℕ) → 23 ≡ refusal m numbers start room
-    number_refused found start room = sym (size_passed true found start room)
-
-    pub numbers_passed : some_from (limit_of m) numbers ≡ false → Past m numbers
-    numbers_passed found = size_passed false found
-
--- what the tests of `refusal_of` leave of the definition, one after another
-pub ruleset refusals = (size_refused, at_most_twelve, limit_some, behind_size)
-
-module _ (m : ℕ) (numbers : List ℕ) (past : Past m numbers) (start room : ℕ) where
-  pub room_refused : room ≤ m → 24 ≡ refusal m numbers start room
-  room_refused short = sym (past start room ∙ rw (le-leb room m short))
-
-  room_passed : (over : Bool) → m < room → ltb (limit_of m - 1) start ≡ over → cond over 25 0 ≡ refusal m numbers start room
-  room_passed over enough is = sym (past start room ∙ rw (lt-leb room m enough, is))
-
-  pub start_refused : m < room → limit_of m - 1 < start → 25 ≡ refusal m numbers start room
-  start_refused enough over = room_passed true enough (lt-ltb (limit_of m - 1) start over)
-
-  pub none_refused : m < room → start ≤ limit_of m - 1 → 0 ≡ refusal m numbers start room
-  none_refused enough within = room_passed false enough (le-ltb (limit_of m - 1) start within)
+-- what the tests of `accept` leave of the definition, one after another
+pub ruleset refusals = (wide_refused, size_refused, at_most_twelve, limit_some, behind_size)
 
 -- nothing is refused: a run may count on what it asks
 pub accepted : (m : ℕ) (numbers : List ℕ) (start room : ℕ) → refusal m numbers start room ≡ 0 → Accepted m numbers start room
@@ -161,11 +136,6 @@ accepted m numbers start room e =
       enough = leb-false room m (passed (leb room m) 23 _ roomy);
     }
 
--- and the start fits 16 bits
-pub start_fits : (m : ℕ) (numbers : List ℕ) (start room : ℕ) → refusal m numbers start room ≡ 0 → start < 2 ^ 16
-unfolding refusal
-start_fits m numbers start room e = omega (arith, (accepted m numbers start room e).small, pow_mono (at_most m _ e))
-
 -- and the other way round: where each demand is met nothing is refused
 pub not_refused : (m : ℕ) (numbers : List ℕ) (start room : ℕ) → 0 < m → m ≤ 12 → Accepted m numbers start room
     → refusal m numbers start room ≡ 0
@@ -179,14 +149,3 @@ not_refused m numbers start room some most ok =
       lt-leb room m ok.enough,
       le-ltb (2 ^ m - 1) start (omega (arith, ok.small)),
     )
-
--- the contract of a settling that is done, and of one that is refused
-module _ (m : ℕ) (numbers : List ℕ) (start : ℕ) (buffer : List ℕ) where
-  pub settles_done : (r : Settled) (last : List ℕ) → refusal m numbers start (length buffer) ≡ 0
-      → Ran m numbers start buffer r last → Settles m numbers start buffer r last
-  settles_done r last none ran = record { result = rw none ran.result; left = rw none ran.left }
-
-  pub settles_refused : (answer : ℕ) → answer ≡ refusal m numbers start (length buffer) → (answer ≡ 0 → ⊥)
-      → Settles m numbers start buffer (record { answer = answer; lines = 0; stages = 0; matches = 0 }) buffer
-  settles_refused zero e some = absurd (some refl)
-  settles_refused (suc refused) e some = record { result = rw (← e); left = rw (← e) }

@@ -15,7 +15,7 @@ use Rattle.arbiter.proofs.Tests.{and_right, otherwise}
 use Rattle.arbiter.proofs.Winner.{Won}
 use Rattle.arbiter.specs.Arbitrate.{number_of, preferred, some_preferred, competes, granted}
 use Rattle.arbiter.specs.State.{waits, is_closed}
-use Rattle.arbiter.specs.declared.RackState.{RackState}
+use Rattle.state.specs.declared.RackState.{RackState}
 use Rattle.rules.specs.Rules.{by_rule}
 use Rattle.promises.proofs.Turns.{Potential}
 

@@ -2,32 +2,33 @@
 use Prim.Native.Nat.{ℕ, zero, suc, ◌*◌, ◌/◌, ◌%◌, ◌≤◌, ◌<◌}
 use native.Mathlib.Omega.{arith}
 use mathlib.Core.Bool.{Bool, true, false, cond}
-use mathlib.Core.List.{List, [], ◌++◌}
+use mathlib.Core.List.{List, ◌++◌}
 use mathlib.Core.Logic.{◌≢◌}
-use mathlib.Core.Path.{◌≡◌, refl, ap, ◌∙◌}
+use mathlib.Core.Path.{◌≡◌, refl, ap, sym, ◌∙◌}
 use lib.Dec.{leb, eqb}
 use lib.ListN.{length, drop}
 use lib.Seq.{drop_at}
 use borrow.Author.Tests.{eqb-true, ne_eqb}
 use denote.Triple.Clauses.{at_exit}
+use Rattle.std.specs.Prelude.{Result, Ok, Err}
 use Rattle.arbiter.specs.contracts as arbiter_contracts
+use Rattle.arbiter.proofs.Outcomes.{table_kept as keeps_table, arbitrated_table}
 use Rattle.arbiter.proofs.Told.{Kept, kept_by, arbitrated_kept}
-use Rattle.arbiter.specs.Lent.{Leaves, marks_of}
-use Rattle.arbiter.specs.State.{well_formed}
-use Rattle.arbiter.specs.declared.Outcome.{Outcome}
-use Rattle.arbiter.specs.declared.RackState.{RackState}
-use Rattle.arbiter.specs.declared.Reply.{Reply}
+use Rattle.arbiter.specs.Events.{answered_by, request_refusal, request_by, release_refusal, release_by}
+use Rattle.arbiter.specs.Outcome.{Outcome, as_outcome}
+use Rattle.arbiter.specs.State.{well_formed, with_marks, with_bus}
+use Rattle.arbiter.specs.declared.Reported.{Reported}
+use Rattle.state.specs.declared.RackState.{RackState}
 use Rattle.cardfile.proofs.LoadedGood.{loaded_good}
 use Rattle.cardfile.specs.Format.{load_table_of}
-use Rattle.cardfile.specs.declared.LoadedTable.{LoadedTable}
+use Rattle.cardfile.specs.LoadedTable.{LoadedTable}
 use Rattle.cards.specs.contracts as cards_contracts
 use Rattle.cards.proofs.SavingLaws.{saved_length_lem}
 use Rattle.cards.proofs.TableKnown.{table_known}
 use Rattle.cards.specs.Saving.{saved_of, buffer_after, saved_bytes, saved_length}
 use Rattle.cards.specs.Table.{table_good}
-use Rattle.cards.specs.declared.Saved.{Saved}
+use Rattle.cards.specs.Saved.{Saved, as_saved}
 use Rattle.cards.specs.declared.Table.{Table}
-use Rattle.rules.specs.Marks.{Marks}
 use Rattle.laptop.specs.contracts as laptop_contracts
 use Rattle.laptop.proofs.Pairs.{bytes-length}
 use Rattle.laptop.specs.Settle.{SettlesBytes, code_or, bytes_or}
@@ -39,15 +40,20 @@ use Rattle.lines.proofs.Stages.{stages_le}
 use Rattle.lines.proofs.Trail.{trail-length}
 use Rattle.lines.specs.Settle.{Settles, refusal, settled_or, written_or}
 use Rattle.lines.specs.Settling.{stages, trail}
-use Rattle.lines.specs.declared.Settled.{Settled}
-use Rattle.promises.specs.Buffers.{NoRefusalWrites, NothingBeyond, RefusedGivesZeros}
+use Rattle.lines.specs.Settled.{Settled, as_settled}
+use Rattle.lines.specs.declared.Settling.{Settling as Settlement}
+use Rattle.promises.specs.Buffers.{NoRefusalWrites, NothingBeyond, NoEventChangesMore, RefusedGivesZeros}
 use Rattle.rack.specs.contracts as rack_contracts
+use Rattle.rack.specs.Done.{outcome_in}
+use Rattle.rack.specs.declared.Done.{Done}
 use Rattle.rack.specs.Files.{save_of, save_after}
+use Rattle.refusals.specs.Numbers.{answer_of}
+use Rattle.refusals.specs.declared.Refusal.{Refusal}
 use Rattle.report.specs.Text.{row_text}
 use Rattle.tally.specs.contracts as tally_contracts
 use Rattle.tally.proofs.Kept.{refused_counts}
-use Rattle.tally.specs.declared.Counted.{Counted}
-use Rattle.tally.specs.declared.Tallied.{Tallied}
+use Rattle.tally.specs.Counted.{Counted}
+use Rattle.tally.specs.Tallied.{Tallied}
 use Rattle.trace.proofs.Chunks.{listing_size}
 use Rattle.trace.specs.Listing.{Lists, listing, lines_within}
 use Rattle.trace.specs.declared.Ran.{Ran}
@@ -79,6 +85,11 @@ by_refusal m numbers start buffer last r (suc n) p q = record {
 settling : {m : ℕ} {numbers : List ℕ} {start : ℕ} {buffer last : List ℕ} {r : Settled} → Settles m numbers start buffer r last → Settling buffer last r
 settling {m} {numbers} {start} {buffer} {last} {r} s =
     by_refusal m numbers start buffer last r (refusal m numbers start (length buffer)) s.result s.left
+
+-- the number of a refusal, and 0 of none
+settled_answer : (r : Result Settlement Refusal) → answer_of r ≡ (as_settled r).answer
+settled_answer (Ok done) = refl
+settled_answer (Err refused) = refl
 
 -- ---- settling for C
 
@@ -146,6 +157,10 @@ saving_state s buffer last r = go (well_formed s)
     go true p q = saving s.table buffer last r p q
     go false p q = saving_refused buffer last r 17 p q
 
+saved_answer : (r : Result ℕ Refusal) → answer_of r ≡ (as_saved r).answer
+saved_answer (Ok len) = refl
+saved_answer (Err refused) = refl
+
 -- ---- a table for C
 
 table_kept : {file buffer last : List ℕ} {r : ℕ} → GivesTable file buffer r last → r ≢ 0 → last ≡ buffer
@@ -182,24 +197,58 @@ run_beyond {s} {trace} {buffer} {r} {last} lists =
     let l = listing s trace (lines_within trace buffer) in
     rw lists.result (behind l.text buffer last _ (listing_size s trace (lines_within trace buffer)) lists.left)
 
--- ---- the events on lent marks
+-- ---- the events on a lent state
 
-marks_kept : (s : RackState) (o : Outcome) (r : Reply) (m : Marks) → Kept s o → Leaves o r m → r.answer ≢ 0 → m ≡ marks_of s
-marks_kept s o r m kept leaves refused =
-    leaves.marks_left ∙ ap (λ (p : Outcome). marks_of p.state) (kept (λ done. refused (ap (λ (q : Reply). q.answer) leaves.reply ∙ done)))
+-- what an event tells is of the state that it left
+told_state : (s : RackState) (r : Result Reported Refusal) → (as_outcome s r).state ≡ s
+told_state s (Ok done) = refl
+told_state s (Err refused) = refl
+
+left_by : (last : RackState) (r : Result Reported Refusal) (o : Outcome) → as_outcome last r ≡ o → last ≡ o.state
+left_by last r o e = sym (told_state last r) ∙ ap (λ (p : Outcome). p.state) e
+
+told_answer : (s : RackState) (r : Result Reported Refusal) → answer_of r ≡ (as_outcome s r).answer
+told_answer s (Ok done) = refl
+told_answer s (Err refused) = refl
+
+event_kept : (s last : RackState) (r : Result Reported Refusal) (o : Outcome) → Kept s o → as_outcome last r ≡ o → answer_of r ≢ 0 → last ≡ s
+event_kept s last r o kept e refused =
+    left_by last r o e
+    ∙ ap (λ (p : Outcome). p.state) (kept (λ done. refused (told_answer last r ∙ ap (λ (p : Outcome). p.answer) e ∙ done)))
+
+-- what holds of the state where the event is done and where it is refused
+either : (Holds : RackState → Type 0) (b : Bool) (x y : Outcome) → Holds x.state → Holds y.state → Holds (cond b x y).state
+either Holds true x y p q = p
+either Holds false x y p q = q
+
+module _ (formed : Bool) (s : RackState) where
+  request_changes : (a : ℕ) (e : RackState) → e ≡ (request_by formed s a).state → e ≡ with_marks s e.waiting e.counts e.waiters
+  unfolding answered_by
+  request_changes a e left =
+      rw left (either (λ (e : RackState). e ≡ with_marks s e.waiting e.counts e.waiters) (eqb (request_refusal formed s a) 0) _ _ refl refl)
+
+  release_changes : (a : ℕ) (e : RackState) → e ≡ (release_by formed s a).state → e ≡ with_bus s s.last e.bus
+  unfolding answered_by
+  release_changes a e left = rw left (either (λ (e : RackState). e ≡ with_bus s s.last e.bus) (eqb (release_refusal formed s a) 0) _ _ refl refl)
+
+-- ---- an event that is counted in a lent tally
+
+event_answer : (s : RackState) (r : Result Done Refusal) → answer_of r ≡ (outcome_in s r).answer
+event_answer s (Ok done) = refl
+event_answer s (Err refused) = refl
 
 -- ---- all together
 
 pub no_refusal_writes : NoRefusalWrites
 no_refusal_writes = record {
   settle = λ κ a r b p refused.
-      let kept = (settling p).kept refused in
+      let kept = (settling p).kept (λ done. refused (settled_answer r ∙ done)) in
       λ i. at_exit lines_contracts.settle.ended κ a (tt, (tt, (tt, (kept i, tt))));
   save_table = λ κ a r b p refused.
-      let kept = (saving _ _ _ r p.0 p.1).kept refused in
+      let kept = (saving _ _ _ _ p.0 p.1).kept (λ done. refused (saved_answer r ∙ done)) in
       λ i. at_exit cards_contracts.save_table.ended κ a (tt, (kept i, tt));
   save = λ κ a r b p refused.
-      let kept = (saving_state _ _ _ r p.0 p.1).kept refused in
+      let kept = (saving_state _ _ _ _ p.0 p.1).kept (λ done. refused (saved_answer r ∙ done)) in
       λ i. at_exit rack_contracts.save.ended κ a (tt, (kept i, tt));
   rack_settle = λ κ a r b p refused.
       let kept = (settling_bytes p).kept (omega arith) in
@@ -208,15 +257,16 @@ no_refusal_writes = record {
       let kept = table_kept p refused in
       λ i. at_exit laptop_contracts.rack_table.ended κ a (tt, (kept i, tt));
   request_in = λ κ a r b p refused.
-      let kept = marks_kept _ _ r _ (kept_by _ _ _ (λ some. absurd (some refl))) (p.left 0 0 [] []) refused in
-      λ i. at_exit arbiter_contracts.request_in.ended κ a (tt, (tt, ((kept i).waiting, ((kept i).counts, (tt, (tt, tt))))));
-  release_in = λ κ a r b p refused. refl;
+      let kept = event_kept _ _ r _ (kept_by _ _ _ (λ some. absurd (some refl))) p refused in
+      λ i. at_exit arbiter_contracts.request_in.ended κ a (tt, (kept i, (tt, tt)));
+  release_in = λ κ a r b p refused.
+      let kept = event_kept _ _ r _ (kept_by _ _ _ (λ some. absurd (some refl))) p refused in
+      λ i. at_exit arbiter_contracts.release_in.ended κ a (tt, (kept i, (tt, tt)));
   arbitrate_in = λ κ a r b p refused.
-      let kept = marks_kept _ _ r _ (kept_by _ _ _ (arbitrated_kept _)) (p.left []) refused in
-      λ i. at_exit arbiter_contracts.arbitrate_in.ended κ a
-      (tt, (tt, (tt, ((kept i).waiting, ((kept i).counts, ((kept i).batch, ((kept i).inhibited, (tt, tt))))))));
+      let kept = event_kept _ _ r _ (kept_by _ _ _ (arbitrated_kept _)) p refused in
+      λ i. at_exit arbiter_contracts.arbitrate_in.ended κ a (tt, (kept i, tt));
   event_tallied = λ κ a r b p refused.
-      let same = (refused_counts _ _ _ _ _ (λ done. refused (ap (λ (q : Tallied). q.outcome.answer) p.0 ∙ done))).0 in
+      let same = (refused_counts _ _ _ _ _ (λ done. refused (event_answer _ r.event ∙ ap (λ (q : Tallied). q.outcome.answer) p.0 ∙ done))).0 in
       let kept = p.1 ∙ ap (λ (c : Counted). c.tally) same in
       λ i. at_exit tally_contracts.event_tallied.ended κ a (kept i, (tt, (tt, (tt, (tt, tt)))));
 }
@@ -224,17 +274,24 @@ no_refusal_writes = record {
 pub nothing_beyond : NothingBeyond
 nothing_beyond = record {
   settle = λ κ a r e p. (settling p).beyond;
-  save_table = λ κ a r e p. (saving _ _ _ r p.0 p.1).beyond;
-  save = λ κ a r e p. (saving_state _ _ _ r p.0 p.1).beyond;
+  save_table = λ κ a r e p. (saving _ _ _ _ p.0 p.1).beyond;
+  save = λ κ a r e p. (saving_state _ _ _ _ p.0 p.1).beyond;
   rack_settle = λ κ a r e p. (settling_bytes p).beyond;
   rack_table = λ κ a r e p. table_beyond p;
   run = λ κ a r e p. run_beyond p;
   row_text = λ κ a r e p. rw p.0 (behind (row_text a.0 a.1.0 a.1.1.0) _ _ _ refl p.1);
 }
 
+pub no_event_changes_more : NoEventChangesMore
+no_event_changes_more = record {
+  request_in = λ κ a r e p. request_changes _ _ _ _ (left_by _ r _ p);
+  release_in = λ κ a r e p. release_changes _ _ _ _ (left_by _ r _ p);
+  arbitrate_in = λ κ a r e p. ap (λ (s : RackState). s.table) (left_by _ r _ p) ∙ keeps_table _ _ _ (arbitrated_table _);
+}
+
 pub refused_gives_zeros : RefusedGivesZeros
 refused_gives_zeros = record {
-  settle = λ κ a r e p refused. (settling p).zeros refused;
-  save_table = λ κ a r e p refused. (saving _ _ _ r p.0 p.1).zero refused;
-  save = λ κ a r e p refused. (saving_state _ _ _ r p.0 p.1).zero refused;
+  settle = λ κ a r e p refused. (settling p).zeros (λ done. refused (settled_answer r ∙ done));
+  save_table = λ κ a r e p refused. (saving _ _ _ _ p.0 p.1).zero (λ done. refused (saved_answer r ∙ done));
+  save = λ κ a r e p refused. (saving_state _ _ _ _ p.0 p.1).zero (λ done. refused (saved_answer r ∙ done));
 }

@@ -13,10 +13,10 @@ use Rattle.arbiter.proofs.Steps.{winner_stops}
 use Rattle.arbiter.specs.Arbitrate.{won_bus, granted, arbitrated, arbitrate_refusal, arbitrate_of, event_of}
 use Rattle.arbiter.specs.Events.{answered, answered_by, handed_on, requested, request_of, released, release_refusal, release_of}
 use Rattle.arbiter.specs.State.{waits, is_closed, is_elected, well_formed, fresh_of}
-use Rattle.arbiter.specs.declared.Bus.{Bus}
-use Rattle.arbiter.specs.declared.Bus.TheVariants.{Free, Held, Elected}
-use Rattle.arbiter.specs.declared.Outcome.{Outcome}
-use Rattle.arbiter.specs.declared.RackState.{RackState}
+use Rattle.state.specs.declared.Bus.{Bus}
+use Rattle.state.specs.declared.Bus.TheVariants.{Free, Held, Elected}
+use Rattle.arbiter.specs.Outcome.{Outcome}
+use Rattle.state.specs.declared.RackState.{RackState}
 use Rattle.cards.proofs.Below.{same_or_not}
 use Rattle.promises.specs.Elections.{GrantsFree, Elects, HandsOn, HandsToElected, is_release, NoRelease, ElectedStands, ElectedIdle}
 use Rattle.promises.specs.Runs.{Event, outcome_of, next, winner, after, grants}

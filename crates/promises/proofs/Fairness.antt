@@ -10,7 +10,7 @@ use lib.ListN.{length}
 use Rattle.arbiter.proofs.Open.{BatchRule}
 use Rattle.arbiter.proofs.Winner.{FairRule}
 use Rattle.arbiter.specs.State.{fresh_of}
-use Rattle.arbiter.specs.declared.RackState.{RackState}
+use Rattle.state.specs.declared.RackState.{RackState}
 use Rattle.promises.proofs.Batches.{batch_potential, lower_once}
 use Rattle.promises.proofs.Limits.{same_cards, rules_after, at_most, within, Limited, each_limited, others_within, share_but, share_of}
 use Rattle.promises.proofs.Potentials.{fair_potential}

@@ -12,8 +12,8 @@ use Rattle.arbiter.proofs.Told.{refused_keeps}
 use Rattle.arbiter.specs.Arbitrate.{arbitrate_of, event_of}
 use Rattle.arbiter.specs.Events.{answered, request_of, release_of}
 use Rattle.arbiter.specs.State.{fresh_of}
-use Rattle.arbiter.specs.declared.Outcome.{Outcome}
-use Rattle.arbiter.specs.declared.RackState.{RackState}
+use Rattle.arbiter.specs.Outcome.{Outcome}
+use Rattle.state.specs.declared.RackState.{RackState}
 use Rattle.cards.proofs.Below.{same_or_not}
 use Rattle.cards.specs.declared.Table.{Table}
 use Rattle.promises.proofs.Turns.{hit, times-grants}

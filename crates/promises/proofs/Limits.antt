@@ -7,7 +7,7 @@ use mathlib.Core.List.{List}
 use mathlib.Core.Logic.{◌⊎◌, inl, inr, ◌≢◌}
 use mathlib.Core.Path.{◌≡◌, ap}
 use Rattle.arbiter.specs.State.{fresh_of}
-use Rattle.arbiter.specs.declared.RackState.{RackState}
+use Rattle.state.specs.declared.RackState.{RackState}
 use Rattle.cards.proofs.Below.{same_or_not}
 use Rattle.cards.specs.Table.{card_count}
 use Rattle.cards.specs.declared.Table.{Table}

@@ -13,7 +13,7 @@ use Rattle.arbiter.proofs.Steps.{no_grant_quiet, loser_waits}
 use Rattle.arbiter.proofs.Tests.{and_left, and_right}
 use Rattle.arbiter.specs.Arbitrate.{event_of}
 use Rattle.arbiter.specs.State.{waits, fresh_of}
-use Rattle.arbiter.specs.declared.RackState.{RackState}
+use Rattle.state.specs.declared.RackState.{RackState}
 use Rattle.cards.proofs.Below.{le_or_lt}
 use Rattle.cards.specs.Below.{all_below}
 use Rattle.cards.specs.declared.Table.{Table}

@@ -12,8 +12,8 @@ use Rattle.arbiter.proofs.Numbers.{wide, greatest_fits, settles}
 use Rattle.arbiter.specs.Arbitrate.{competing, settling_of, winner_of, some_loser_full, grant_to, won_by, has_winner, arbitrated, arbitrate_refusal}
 use Rattle.arbiter.specs.Events.{answered, answered_by}
 use Rattle.arbiter.specs.State.{lines_of, well_formed}
-use Rattle.arbiter.specs.declared.Outcome.{Outcome}
-use Rattle.arbiter.specs.declared.RackState.{RackState}
+use Rattle.arbiter.specs.Outcome.{Outcome}
+use Rattle.state.specs.declared.RackState.{RackState}
 use Rattle.lines.proofs.Intervals.{stages_intervals, stages_any, stages_topped, stages_nobody}
 use Rattle.lines.proofs.Promises.{greatest_in}
 use Rattle.lines.proofs.Refusal.{zeros_greatest}

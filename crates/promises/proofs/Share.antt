@@ -13,7 +13,7 @@ use borrow.Author.Tests.{eq-eqb, ne_eqb, lt-ltb}
 use Rattle.arbiter.proofs.Formed.{waiting_below, waiting_card}
 use Rattle.arbiter.proofs.Seen.{Seen, quiet, grant}
 use Rattle.arbiter.specs.State.{waits, is_card}
-use Rattle.arbiter.specs.declared.RackState.{RackState}
+use Rattle.state.specs.declared.RackState.{RackState}
 use Rattle.cards.proofs.Below.{same_or_not}
 use Rattle.cards.specs.Below.{sum_below}
 use Rattle.cards.specs.Table.{has_card}

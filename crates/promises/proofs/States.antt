@@ -14,7 +14,7 @@ use Rattle.arbiter.proofs.Winner.{arbitrated_won}
 use Rattle.arbiter.specs.Arbitrate.{settling_of, winner_of, some_loser_full, grant_to, won_by, arbitrate_refusal, event_of}
 use Rattle.arbiter.specs.Events.{answered, answered_by, request_refusal, release_refusal}
 use Rattle.arbiter.specs.State.{recount, well_formed, fresh_of}
-use Rattle.arbiter.specs.declared.RackState.{RackState}
+use Rattle.state.specs.declared.RackState.{RackState}
 use Rattle.cardfile.proofs.LoadedGood.{loaded_good, refused_zero}
 use Rattle.cardfile.specs.Format.{refused_with}
 use Rattle.cards.specs.Table.{table_good}
@@ -22,7 +22,7 @@ use Rattle.promises.specs.States.{StaysWellFormed, LoadsWellFormed, RefusedEvent
 use Rattle.promises.specs.Runs.{outcome_of, next}
 use Rattle.rack.specs.Files.{load_of}
 use Rattle.rack.specs.HowMany.{how_many_of}
-use Rattle.rack.specs.declared.HowMany.{HowMany}
+use Rattle.rack.specs.HowMany.{HowMany}
 
 pub events_keep_formed : StaysWellFormed
 events_keep_formed s e = stays_well_formed s e.letter e.number

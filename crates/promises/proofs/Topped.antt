@@ -16,7 +16,7 @@ use Rattle.arbiter.proofs.Tests.{replicate_default}
 use Rattle.arbiter.proofs.Winner.{Won}
 use Rattle.arbiter.specs.Arbitrate.{preferred, some_preferred, competes, batch_now, granted}
 use Rattle.arbiter.specs.State.{waits, in_batch, is_card, is_closed, fresh_of}
-use Rattle.arbiter.specs.declared.RackState.{RackState}
+use Rattle.state.specs.declared.RackState.{RackState}
 use Rattle.cards.proofs.Below.{le_or_lt, same_or_not}
 use Rattle.cards.specs.Table.{has_card}
 use Rattle.cards.specs.declared.Table.{Table}

@@ -1,7 +1,7 @@
 -- Cloned cards, as statements: how many numbers equal the settled lines, in a settling, in an event and in the code that C is given. Assumes nothing.
 use Rattle.std.specs.Prelude.{ℕ, ◌+◌, ◌/◌, ◌%◌, ◌^◌, ◌≤◌, ◌<◌, false, List, ◌≢◌, ◌≡◌, length}
 use Rattle.arbiter.specs.Arbitrate.{arbitrate_of}
-use Rattle.arbiter.specs.declared.RackState.{RackState}
+use Rattle.state.specs.declared.RackState.{RackState}
 use Rattle.laptop.specs.Settle.{SettlesBytes}
 use Rattle.laptop.specs.Words.{words}
 use Rattle.lines.specs.Greatest.{greatest}

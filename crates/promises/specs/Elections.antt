@@ -3,8 +3,8 @@ use Rattle.std.specs.Prelude.{ℕ, Bool, true, false, ◌&&◌, List, [], ◌∷
 use Rattle.arbiter.specs.Arbitrate.{arbitrate_of}
 use Rattle.arbiter.specs.Events.{handed_on, release_of}
 use Rattle.arbiter.specs.State.{waits, is_elected, fresh_of}
-use Rattle.arbiter.specs.declared.Bus.TheVariants.{Free, Held, Elected}
-use Rattle.arbiter.specs.declared.RackState.{RackState}
+use Rattle.state.specs.declared.Bus.TheVariants.{Free, Held, Elected}
+use Rattle.state.specs.declared.RackState.{RackState}
 use Rattle.cards.specs.declared.Table.{Table}
 use Rattle.promises.specs.Runs.{Event, outcome_of, next, after, grants}
 

@@ -3,7 +3,7 @@ use Rattle.std.specs.Prelude.{ℕ, ◌^◌, ◌<◌, true, ◌≢◌, ◌≡◌}
 use Rattle.arbiter.specs.Arbitrate.{arbitrate_of}
 use Rattle.arbiter.specs.Next.{next_of}
 use Rattle.arbiter.specs.State.{lines_of, well_formed, with_value}
-use Rattle.arbiter.specs.declared.RackState.{RackState}
+use Rattle.state.specs.declared.RackState.{RackState}
 
 -- Under round-robin the look answers what an arbitration of that state does, refused or done: the same number, and the winner that it would give.
 abbrev pub NextWins : Type 0

@@ -1,61 +1,38 @@
 // Counts a trace over the rack of the table rack.tab, and writes the waiting report: docs/REPORT.md.
 #![tactic(auto)]
 
-ghost use Rattle.std.specs.Prelude.{true, ◌≡◌, ◌≤◌, IfOk, length};
+ghost use Rattle.std.specs.Prelude.{◌≡◌, ◌≤◌, IfOk, length};
 ghost use Rattle.arbiter.specs.Arbitrate.{event_of};
-ghost use Rattle.arbiter.specs.declared.RackState.{RackState as State};
+ghost use Rattle.state.specs.declared.RackState.{RackState as State};
 ghost use Rattle.tally.specs.Tally.{zero_tally};
 ghost use Rattle.trace.specs.Line.{line_outcome};
 
-use arbiter::RackState;
+use refusals::Refusal;
 use report::CardLine;
+use state::RackState;
 use std::env::FillError;
 use std::io::Read;
 use std::rt::{Env, Files};
 use std::{fs, io};
-use tally::{Figures, Tally};
-use trace::Line;
+use tally::{Figures, Tallied, Tally};
+use trace::Event;
 
-// What the trace has next: an event by its letter and number, or nothing more.
-#[derive(Clone, Copy)]
-struct Next {
-    letter: u8,
-    number: u8,
-    more: bool,
-}
-
-fn some_event(letter: u8, number: u8) -> Next
-    ensures { result ≡ record { letter = letter; number = number; more = true } }
-{
-    Next {
-        letter,
-        number,
-        more: true,
-    }
-}
-
-fn no_event() -> Next {
-    Next {
-        letter: 0,
-        number: 0,
-        more: false,
-    }
-}
-
-// The event to count, which the rack answers as it answers the line. No event has the letter 0, so that a malformed line gets 18.
+// The event to count for a line, by its letter and number, as a tally takes events, which the rack answers as it answers the line. No event has the letter 0, so that a malformed
+// line gets 18.
 #[tactic(auto, unfolding(arbiter::specs::Arbitrate::event_of, trace::specs::Line::line_outcome))]
-fn event_of(line: Line) -> Next
-    ensures { (s : State) → event_of s result.letter result.number ≡ line_outcome s line }
+fn event_of(line: Option<Event>) -> (u8, u8)
+    ensures { (s : State) → event_of s result.0 result.1 ≡ line_outcome s line }
 {
     match line {
-        Line::Request(n) => some_event(b'Q', n),
-        Line::Arbitrate => some_event(b'A', 0),
-        Line::Release(n) => some_event(b'R', n),
-        Line::Malformed => some_event(0, 0),
+        Some(Event::Request(number)) => (b'Q', number),
+        Some(Event::Arbitrate) => (b'A', 0),
+        Some(Event::Release(number)) => (b'R', number),
+        None => (0, 0),
     }
 }
 
-// Reads until the buffer is full or the source ends, and returns how many bytes came.
+// Reads until the buffer is full or the source ends, and returns how many bytes came, which `read_exact` does not tell of a short line. An error is handed
+// on, where `read_some` below keeps what came before it.
 fn read_full(source: &mut impl Read, buf: &mut [u8]) -> io::Result<usize>
     ensures { IfOk result (λ n. n ≤ length buf.new) }
 {
@@ -70,31 +47,22 @@ fn read_full(source: &mut impl Read, buf: &mut [u8]) -> io::Result<usize>
     Ok(len)
 }
 
-// Reads a line. One that the end of the input cuts short has no newline for its last byte, and so is malformed.
-fn next_event(source: &mut impl Read) -> io::Result<Next> {
+// Reads a line, and gives the event to count for it; nothing where the input ends. A line that the end of the input cuts short is malformed.
+fn next_event(source: &mut impl Read) -> io::Result<Option<(u8, u8)>> {
     let mut bytes = [0u8; 5];
     let len = read_full(source, &mut bytes)?;
     if len == 0 {
-        return Ok(no_event());
+        return Ok(None);
     }
-    let line = trace::parse(bytes[0], bytes[1], bytes[2], bytes[3], bytes[4]);
-    Ok(event_of(line))
+    Ok(Some(event_of(trace::parse(&bytes[..len]))))
 }
 
-// Reads on unless the counting has ended.
-fn event_after(source: &mut impl Read, ended: u8) -> io::Result<Next> {
-    if ended != 0 {
-        return Ok(no_event());
-    }
-    next_event(source)
-}
-
-// What ends the counting: 18 and 31, and 17 and 41, which a count from a fresh state never meets. A refusal of a single event does not.
-fn ending(answer: u8) -> u8 {
-    if answer < 17 {
-        return 0;
-    }
-    answer
+// Whether a refusal ends the counting: 18 and 31, and 17 and 41, which a count from a fresh state never meets. A refusal of a single event does not.
+fn ends_counting(refusal: Refusal) -> bool {
+    matches!(
+        refusal,
+        Refusal::NotWellFormed | Refusal::Malformed | Refusal::TallyFull | Refusal::TallyBad
+    )
 }
 
 fn zero_tally() -> Tally
@@ -112,70 +80,81 @@ fn zero_tally() -> Tally
     }
 }
 
+// A rack, and what is counted of its events.
+#[derive(Clone, Copy)]
+struct Count {
+    state: RackState,
+    tally: Tally,
+    square: [[u16; 64]; 64],
+}
+
+// Counts an event. A refused one changes nothing.
+fn count_event(count: &mut Count, (letter, number): (u8, u8)) -> Result<(), Refusal> {
+    let Tallied { event, square } = tally::event_tallied(
+        &mut count.tally,
+        count.square,
+        count.state,
+        letter,
+        number,
+    );
+    count.square = square;
+    count.state = event?.state;
+    Ok(())
+}
+
+// The first line, with the refusal that there was, if there was one.
 fn print_opening(
     rt: &impl Print,
-    a: u8,
-    b: u8,
-    c: u8,
-    d: u8,
-    answer: u8,
+    why: [u8; 4],
+    refusal: Option<Refusal>,
     events: u16,
 ) -> io::Result<()> {
-    let line = report::opening(a, b, c, d, answer, events);
-    rt.write_all(&line)
+    let answer = refusal.map_or(0, |refusal| refusal.number());
+    rt.write_all(&report::opening(why, answer, events))
 }
 
-fn print_card(rt: &impl Print, slot: u8, number: u8, card: CardLine) -> io::Result<()> {
-    if slot == 0 {
-        return Ok(());
-    }
-    let line = report::card_text(slot, number, card);
-    rt.write_all(&line)
-}
-
-fn print_cards(rt: &impl Print, slots: [u8; 64], cards: [CardLine; 64]) -> io::Result<()> {
-    for a in 0..64usize {
-        print_card(rt, slots[a], a as u8, cards[a])?;
+fn print_cards(rt: &impl Print, slots: &[u8; 64], lines: &[CardLine; 64]) -> io::Result<()> {
+    for (number, slot) in slots.iter().enumerate() {
+        if *slot != 0 {
+            rt.write_all(&report::card_text(*slot, number as u8, lines[number]))?;
+        }
     }
     Ok(())
 }
 
-fn print_row(
-    rt: &impl Print,
-    slot: u8,
-    number: u8,
-    slots: [u8; 64],
-    row: [u16; 64],
-) -> io::Result<()> {
-    if slot == 0 {
-        return Ok(());
-    }
+fn print_row(rt: &impl Print, number: u8, slots: &[u8; 64], row: &[u16; 64]) -> io::Result<()> {
     let mut line = [0u8; 387];
-    let len = report::row_text(number, slots, row, &mut line);
+    let len = report::row_text(number, *slots, *row, &mut line);
     rt.write_all(&line[..len])
 }
 
-fn print_square(rt: &impl Print, slots: [u8; 64], square: [[u16; 64]; 64]) -> io::Result<()> {
-    for a in 0..64usize {
-        print_row(rt, slots[a], a as u8, slots, square[a])?;
+fn print_square(rt: &impl Print, slots: &[u8; 64], square: &[[u16; 64]; 64]) -> io::Result<()> {
+    for (number, slot) in slots.iter().enumerate() {
+        if *slot != 0 {
+            print_row(rt, number as u8, slots, &square[number])?;
+        }
     }
     Ok(())
 }
 
+// The figures are there, since what is counted from a fresh state is not refused with 41.
 fn print_report(
     rt: &impl Print,
-    slots: [u8; 64],
-    ended: u8,
-    tally: Tally,
-    square: [[u16; 64]; 64],
+    count: &Count,
+    ended: Option<Refusal>,
     with_square: bool,
 ) -> io::Result<()> {
-    print_opening(rt, b'e', b'n', b'd', b'.', ended, tally.events)?;
-    let figures = report::waiting_report(tally, square);
-    let cards = figures.cards;
-    print_cards(rt, slots, cards)?;
+    let Count {
+        state,
+        tally,
+        square,
+    } = *count;
+    print_opening(rt, *b"end.", ended, tally.events)?;
+    if let Ok(lines) = report::waiting_report(tally, square) {
+        print_cards(rt, &state.table.slots, &lines)?;
+    }
     if with_square {
-        print_square(rt, slots, square)?;
+        print_square(rt, &state.table.slots, &square)?;
     }
     Ok(())
 }
@@ -187,29 +166,28 @@ fn count_all(
     start: RackState,
     with_square: bool,
 ) -> io::Result<()> {
-    let table = start.table;
-    let mut state = start;
-    let mut tally = zero_tally();
-    let mut square = [[0u16; 64]; 64];
-    let mut ended = 0u8;
-    let mut event = next_event(source)?;
+    let mut count = Count {
+        state: start,
+        tally: zero_tally(),
+        square: [[0; 64]; 64],
+    };
+    let mut ended = None;
     for _ in 0..u64::MAX {
-        if !event.more {
+        let Some(event) = next_event(source)? else {
             break;
+        };
+        if let Err(refusal) = count_event(&mut count, event) {
+            if ends_counting(refusal) {
+                ended = Some(refusal);
+                break;
+            }
         }
-        let before = tally.events;
-        let counted = tally::event_counted(tally, square, state, event.letter, event.number);
-        let outcome = counted.outcome;
-        let waited = tally::square_counted(before, square, outcome);
-        square = waited;
-        tally = counted.tally;
-        state = outcome.state;
-        ended = ending(outcome.answer);
-        event = event_after(source, ended)?;
     }
-    let slots = table.slots;
-    print_report(rt, slots, ended, tally, square, with_square)
+    print_report(rt, &count, ended, with_square)
 }
+
+// The next two functions stand in racktrace too. In a library they would be public functions whose results depend on what a read gives, and each public
+// function of a library here has a law that its contract admits one result.
 
 // Reads until the buffer is full, the source ends or a read fails, and returns how many bytes came.
 fn read_some(source: &mut impl Read, buf: &mut [u8]) -> usize
@@ -243,13 +221,10 @@ fn report_table<R: Files + Print>(
 ) -> io::Result<()> {
     let mut file = [0u8; 8193];
     let len = table_bytes(rt, &mut file);
-    let loaded = rack::load(&file[..len]);
-    let answer = loaded.answer;
-    if answer != 0 {
-        return print_opening(rt, b't', b'a', b'b', b'.', answer, 0);
+    match rack::load(&file[..len]) {
+        Ok(state) => count_all(rt, source, state, with_square),
+        Err(refusal) => print_opening(rt, *b"tab.", Some(refusal), 0),
     }
-    let state = loaded.state;
-    count_all(rt, source, state, with_square)
 }
 
 // Whether there is an argument i. One that does not fit the buffer is there too.
@@ -260,10 +235,7 @@ fn has_argument(rt: &impl Env, i: usize) -> bool {
 // Whether the first argument is the word square. A longer one does not fit.
 fn asks_square(rt: &impl Env) -> bool {
     let mut word = [0u8; 6];
-    match rt.arg(1, &mut word) {
-        Ok(len) => len == 6 && word == *b"square",
-        Err(_) => false,
-    }
+    matches!(rt.arg(1, &mut word), Ok(6)) && word == *b"square"
 }
 
 fn main(rt: HostRuntime) -> io::Result<()> {

@@ -1,8 +1,9 @@
-// The layout of a state in a record, which the program's first lines describe.
-ghost use Rattle.std.specs.Prelude.{◌+◌, ◌≤◌};
+// The layout of a record in and of a record out, which the program's first lines describe.
+ghost use Rattle.std.specs.Prelude.{◌+◌, ◌≤◌, length};
 
-use arbiter::{Bus, RackState};
 use cards::Table;
+use state::{Bus, RackState};
+use std::array;
 
 const K: usize = 0;
 
@@ -36,148 +37,76 @@ pub(crate) const AFTER: usize = WAITERS + 1;
 // The state, a letter and a number.
 pub(crate) const RECORD: usize = AFTER + 2;
 
-// The state, and six bytes about the event or the save.
+// The state, and six bytes about the event, the save or the question.
 const ANSWER: usize = AFTER + 6;
 
 // The 64 bytes of a record from at on.
 fn numbers_at(bytes: &[u8; RECORD], at: usize) -> [u8; 64]
-    requires { at + 64 ≤ 329 }
+    requires { at + 64 ≤ 331 }
 {
-    let mut numbers = [0u8; 64];
-    for a in 0..64usize {
-        numbers[a] = bytes[at + a];
-    }
-    numbers
+    array::from_fn(|a| bytes[at + a])
 }
 
 // The same as marks: 0 for no, anything else for yes.
 fn marks_at(bytes: &[u8; RECORD], at: usize) -> [bool; 64]
-    requires { at + 64 ≤ 329 }
+    requires { at + 64 ≤ 331 }
 {
-    let mut marks = [false; 64];
-    for a in 0..64usize {
-        marks[a] = bytes[at + a] != 0;
-    }
-    marks
+    numbers_at(bytes, at).map(|number| number != 0)
 }
 
 // The bus as a record tells it: free, held, or held with a card elected.
-fn bus_from(held: u8, holder: u8, elected: u8) -> Bus {
-    match held {
-        0 => Bus::Free,
-        1 => Bus::Held(holder),
-        _ => Bus::Elected(holder, elected),
+fn bus_at(bytes: &[u8; RECORD]) -> Bus {
+    match (bytes[HELD], bytes[HOLDER], bytes[ELECTED]) {
+        (0, _, _) => Bus::Free,
+        (1, holder, _) => Bus::Held(holder),
+        (_, holder, elected) => Bus::Elected(holder, elected),
     }
 }
 
-// A number of two bytes.
-fn word(low: u8, high: u8) -> u16 {
-    (high as u16) * 256 + (low as u16)
-}
-
 // The state at the front of a record.
-pub(crate) fn state_from(bytes: &[u8; RECORD]) -> RackState {
-    let slots = numbers_at(bytes, SLOTS);
-    let waiting = marks_at(bytes, WAITING);
-    let counts = numbers_at(bytes, COUNTS);
-    let batch = marks_at(bytes, BATCH);
-    let inhibited = marks_at(bytes, INHIBITED);
-    let bus = bus_from(bytes[HELD], bytes[HOLDER], bytes[ELECTED]);
+pub(crate) fn state_of(bytes: &[u8; RECORD]) -> RackState {
     RackState {
         table: Table {
             k: bytes[K],
             rule: bytes[RULE],
-            slots,
+            slots: numbers_at(bytes, SLOTS),
         },
-        waiting,
-        counts,
-        batch,
-        inhibited,
+        waiting: marks_at(bytes, WAITING),
+        counts: numbers_at(bytes, COUNTS),
+        batch: marks_at(bytes, BATCH),
+        inhibited: marks_at(bytes, INHIBITED),
         last: bytes[LAST],
-        bus,
-        value: word(bytes[VALUE], bytes[VALUE + 1]),
+        bus: bus_at(bytes),
+        value: u16::from_le_bytes([bytes[VALUE], bytes[VALUE + 1]]),
         waiters: bytes[WAITERS],
     }
 }
 
-// Puts 64 numbers into an answer from at on.
-fn put_numbers(out: &mut [u8; ANSWER], at: usize, numbers: [u8; 64])
-    requires { at + 64 ≤ 329 }
+// Puts bytes into a record out from at on.
+fn put(out: &mut [u8; ANSWER], at: usize, bytes: &[u8])
+    requires { at + length bytes.now ≤ 335 }
 {
-    for a in 0..64usize {
-        out[at + a] = numbers[a];
-    }
+    out[at..at + bytes.len()].copy_from_slice(bytes);
 }
 
-// The same for marks: 1 for yes, 0 for no.
-fn put_marks(out: &mut [u8; ANSWER], at: usize, marks: [bool; 64])
-    requires { at + 64 ≤ 329 }
-{
-    for a in 0..64usize {
-        out[at + a] = marks[a] as u8;
-    }
-}
-
-// 0 if the bus is free, 1 if it is held, 2 if a card is elected too.
-fn bus_kind(bus: Bus) -> u8 {
-    match bus {
-        Bus::Free => 0,
-        Bus::Held(_) => 1,
-        Bus::Elected(_, _) => 2,
-    }
-}
-
-// The elected card, 0 if there is none.
-fn elected_of(bus: Bus) -> u8 {
-    match bus {
-        Bus::Free => 0,
-        Bus::Held(_) => 0,
-        Bus::Elected(_, elected) => elected,
-    }
-}
-
-// The holder of the bus, 0 if it is free.
-fn holder_of(bus: Bus) -> u8 {
-    match bus {
-        Bus::Free => 0,
-        Bus::Held(holder) => holder,
-        Bus::Elected(holder, _) => holder,
-    }
-}
-
-// An answer with the state at its front, and zeros after it.
-pub(crate) fn bytes_of(s: RackState) -> [u8; ANSWER] {
-    let mut out = [0u8; ANSWER];
-    let table = s.table;
-    let slots = table.slots;
-    let waiting = s.waiting;
-    let counts = s.counts;
-    let batch = s.batch;
-    let inhibited = s.inhibited;
-    let bus = s.bus;
-    out[K] = table.k;
-    out[RULE] = table.rule;
-    put_numbers(&mut out, SLOTS, slots);
-    put_marks(&mut out, WAITING, waiting);
-    put_numbers(&mut out, COUNTS, counts);
-    put_marks(&mut out, BATCH, batch);
-    put_marks(&mut out, INHIBITED, inhibited);
+// The state at the front of a record out, 1 for yes and 0 for no, and after it the six bytes about what was asked.
+pub(crate) fn answer_of(s: RackState, about: [u8; 6]) -> [u8; ANSWER] {
+    let mut out = [0; ANSWER];
+    out[K] = s.table.k;
+    out[RULE] = s.table.rule;
+    put(&mut out, SLOTS, &s.table.slots);
+    put(&mut out, WAITING, &s.waiting.map(u8::from));
+    put(&mut out, COUNTS, &s.counts);
+    put(&mut out, BATCH, &s.batch.map(u8::from));
+    put(&mut out, INHIBITED, &s.inhibited.map(u8::from));
     out[LAST] = s.last;
-    out[HELD] = bus_kind(bus);
-    out[HOLDER] = holder_of(bus);
-    out[ELECTED] = elected_of(bus);
-    out[VALUE] = low_byte(s.value as usize);
-    out[VALUE + 1] = high_byte(s.value as usize);
+    (out[HELD], out[HOLDER], out[ELECTED]) = match s.bus {
+        Bus::Free => (0, 0, 0),
+        Bus::Held(holder) => (1, holder, 0),
+        Bus::Elected(holder, elected) => (2, holder, elected),
+    };
+    put(&mut out, VALUE, &s.value.to_le_bytes());
     out[WAITERS] = s.waiters;
+    put(&mut out, AFTER, &about);
     out
-}
-
-// The low byte of a number of two bytes.
-pub(crate) fn low_byte(x: usize) -> u8 {
-    (x % 256) as u8
-}
-
-// The high byte of a number of two bytes.
-pub(crate) fn high_byte(x: usize) -> u8 {
-    (x / 256 % 256) as u8
 }

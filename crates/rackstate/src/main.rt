@@ -44,73 +44,72 @@
 // Each record is answered before the next is read. The program ends where the input ends or a record is short.
 #![tactic(auto)]
 
-use arbiter::RackState;
-use layout::{AFTER, RECORD, bytes_of, high_byte, low_byte, state_from};
+use arbiter::Reported;
+use layout::{AFTER, RECORD, answer_of, state_of};
+use refusals::Refusal;
+use state::RackState;
 use std::io;
 use std::io::Read;
 
 mod layout;
 
-// Writes what an event makes of the state.
+// What a record out says of a refusal, whatever was asked.
+fn refused(refusal: Refusal) -> [u8; 6] {
+    [refusal.number(), 0, 0, 0, 0, 0]
+}
+
+// What it says of an event that is done.
+fn reported(event: Reported) -> [u8; 6] {
+    let [low, high] = event.lines.to_le_bytes();
+    [0, event.winner, low, high, event.stages, event.matches]
+}
+
+// Writes what an event makes of the state. A refused one leaves it as it is.
 fn answer_event(rt: &impl Print, state: RackState, letter: u8, number: u8) -> io::Result<()> {
-    let outcome = rack::event(state, letter, number);
-    let next = outcome.state;
-    let mut out = bytes_of(next);
-    out[AFTER] = outcome.answer;
-    out[AFTER + 1] = outcome.winner;
-    out[AFTER + 2] = low_byte(outcome.lines as usize);
-    out[AFTER + 3] = high_byte(outcome.lines as usize);
-    out[AFTER + 4] = outcome.stages;
-    out[AFTER + 5] = outcome.matches;
+    let out = match rack::event(state, letter, number) {
+        Ok(done) => answer_of(done.state, reported(done.reported)),
+        Err(refusal) => answer_of(state, refused(refusal)),
+    };
     rt.write_all(&out)
 }
 
 // Saves the state to the bytes lent, and writes the answer and those bytes.
 fn answer_save(rt: &impl Print, state: RackState, lent: &mut [u8]) -> io::Result<()> {
-    let saved = rack::save(state, lent);
-    let mut out = bytes_of(state);
-    out[AFTER] = saved.answer;
-    out[AFTER + 1] = low_byte(saved.len);
-    out[AFTER + 2] = high_byte(saved.len);
-    rt.write_all(&out)?;
+    let about = match rack::save(state, lent) {
+        Ok(length) => {
+            let [low, high, ..] = length.to_le_bytes();
+            [0, low, high, 0, 0, 0]
+        }
+        Err(refusal) => refused(refusal),
+    };
+    rt.write_all(&answer_of(state, about))?;
     rt.write_all(lent)
-}
-
-// Writes how many cards of the state wait.
-fn answer_count(rt: &impl Print, state: RackState) -> io::Result<()> {
-    let waiting = rack::waiting_count(state);
-    let mut out = bytes_of(state);
-    out[AFTER] = waiting.answer;
-    out[AFTER + 1] = waiting.count;
-    rt.write_all(&out)
-}
-
-// Writes who is next in the state.
-fn answer_next(rt: &impl Print, state: RackState) -> io::Result<()> {
-    let next = rack::next_winner(state);
-    let mut out = bytes_of(state);
-    out[AFTER] = next.answer;
-    out[AFTER + 1] = next.winner;
-    rt.write_all(&out)
 }
 
 // Lends so many bytes to a save, each of which holds EE.
 fn lend_to_save(rt: &impl Print, state: RackState, number: u8) -> io::Result<()> {
-    let mut buffer = [0xEEu8; 255];
-    let len = number as usize;
-    answer_save(rt, state, &mut buffer[..len])
+    let mut buffer = [0xEE; 255];
+    answer_save(rt, state, &mut buffer[..usize::from(number)])
+}
+
+// Writes the number that was asked of the state, or why there is none.
+fn answer_question(rt: &impl Print, state: RackState, told: Result<u8, Refusal>) -> io::Result<()> {
+    let about = match told {
+        Ok(number) => [0, number, 0, 0, 0, 0],
+        Err(refusal) => refused(refusal),
+    };
+    rt.write_all(&answer_of(state, about))
 }
 
 // Answers one record.
 fn answer(rt: &impl Print, bytes: &[u8; RECORD]) -> io::Result<()> {
-    let state = state_from(bytes);
-    let letter = bytes[AFTER];
+    let state = state_of(bytes);
     let number = bytes[AFTER + 1];
-    match letter {
+    match bytes[AFTER] {
         b'S' => lend_to_save(rt, state, number),
-        b'N' => answer_count(rt, state),
-        b'W' => answer_next(rt, state),
-        _ => answer_event(rt, state, letter, number),
+        b'N' => answer_question(rt, state, rack::waiting_count(state)),
+        b'W' => answer_question(rt, state, rack::next_winner(state)),
+        letter => answer_event(rt, state, letter, number),
     }
 }
 

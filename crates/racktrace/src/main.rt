@@ -1,20 +1,24 @@
 // Runs a trace over the rack of the table rack.tab, and writes the listing.
 #![tactic(auto)]
 
-ghost use Rattle.std.specs.Prelude.{◌≤◌, length};
+ghost use Rattle.std.specs.Prelude.{◌≤◌, IfOk, IfSome, length};
 
-use arbiter::RackState;
+use refusals::Refusal;
+use state::RackState;
 use std::io::Read;
 use std::rt::Files;
 use std::{fs, io};
 
-// What stands between two reads: the state, how many bytes of an unfinished line are held at the front of the input, and whether to go on.
+// What stands between two reads: the state, and how many bytes of an unfinished line are held at the front of the input, a
+// buffer of fixed size.
 #[derive(Clone, Copy)]
 struct Turn {
     state: RackState,
     held: usize,
-    more: bool,
 }
+
+// The next two functions stand in rackreport too. In a library they would be public functions whose results depend on what a read gives, and each public
+// function of a library here has a law that its contract admits one result.
 
 // Reads until the buffer is full, the source ends or a read fails, and returns how many bytes came.
 fn read_some(source: &mut impl Read, buf: &mut [u8]) -> usize
@@ -42,98 +46,72 @@ fn table_bytes(rt: &impl Files, file: &mut [u8]) -> usize
 }
 
 // A line that stands for no event.
-fn print_alone(rt: &impl Print, a: u8, b: u8, c: u8, d: u8, answer: u8) -> io::Result<()> {
-    let line = trace::text(a, b, c, d, answer, 0, 0, 0, 0);
-    rt.write_all(&line)
-}
-
-// Moves the bytes from at to end, fewer than a line, to the front.
-fn keep_rest(input: &mut [u8], at: usize, end: usize) -> usize {
-    if end <= at {
-        return 0;
-    }
-    if input.len() < end {
-        return 0;
-    }
-    let rest = end - at;
-    for i in 0..rest {
-        input[i] = input[at + i];
-    }
-    rest
+fn print_refusal(rt: &impl Print, stands_for: [u8; 4], refusal: Refusal) -> io::Result<()> {
+    rt.write_all(&trace::refusal_text(stands_for, refusal))
 }
 
 // The input is at its end: an unfinished line is malformed.
-fn ended(rt: &impl Print, state: RackState, held: usize) -> io::Result<Turn> {
+fn ended(rt: &impl Print, held: usize) -> io::Result<()> {
     if 0 < held {
-        print_alone(rt, b'-', b'-', b'-', b'-', 18)?;
+        print_refusal(rt, *b"----", Refusal::Malformed)?;
     }
-    Ok(Turn {
-        state,
-        held: 0,
-        more: false,
-    })
+    Ok(())
 }
 
-// Answers the lines that have arrived, which are the first len bytes of the input, with one write.
+// Answers the lines that have arrived, which are the first len bytes of the input, with one write, and moves the rest to the front. After a malformed
+// line there is no next turn.
 fn answered(
     rt: &impl Print,
     state: RackState,
     len: usize,
     input: &mut [u8],
     output: &mut [u8],
-) -> io::Result<Turn> {
-    if input.len() < len {
-        return ended(rt, state, 0);
-    }
+) -> io::Result<Option<Turn>>
+    requires { len ≤ length input.old }
+    ensures { IfOk result (λ next. IfSome next (λ turn. turn.held ≤ length input.new)) }
+{
     let ran = trace::run(state, &input[..len], output);
-    let written = ran.written;
-    if output.len() < written {
-        return ended(rt, state, 0);
+    rt.write_all(&output[..ran.written])?;
+    if ran.ended {
+        return Ok(None);
     }
-    rt.write_all(&output[..written])?;
-    let held = keep_rest(input, ran.read, len);
-    let next = ran.state;
-    Ok(Turn {
-        state: next,
-        held,
-        more: !ran.ended,
-    })
+    input.copy_within(ran.read..len, 0);
+    Ok(Some(Turn {
+        state: ran.state,
+        held: len - ran.read,
+    }))
 }
 
 // Waits for input once, and answers every line that has arrived before it returns.
 fn take_turn(
     rt: &impl Print,
     source: &mut impl Read,
-    t: Turn,
+    turn: Turn,
     input: &mut [u8],
     output: &mut [u8],
-) -> io::Result<Turn> {
-    let held = t.held;
-    let state = t.state;
-    if input.len() <= held {
-        return ended(rt, state, 0);
-    }
+) -> io::Result<Option<Turn>>
+    requires { turn.held ≤ length input.old }
+    ensures { IfOk result (λ next. IfSome next (λ turn. turn.held ≤ length input.new)) }
+{
+    let Turn { state, held } = turn;
     let got = source.read(&mut input[held..])?;
     if got == 0 {
-        return ended(rt, state, held);
+        ended(rt, held)?;
+        return Ok(None);
     }
     answered(rt, state, held + got, input, output)
 }
 
 // A proved loop has to end, and nothing says that the input does: the loop has more turns than any run uses up.
-fn answer_all(rt: &impl Print, source: &mut impl Read, s: RackState) -> io::Result<()> {
+fn answer_all(rt: &impl Print, source: &mut impl Read, state: RackState) -> io::Result<()> {
     let mut input = [0u8; 16380];
     let mut output = [0u8; 72072];
-    let mut t = Turn {
-        state: s,
-        held: 0,
-        more: true,
-    };
+    let mut turn = Turn { state, held: 0 };
     for _ in 0..u64::MAX {
-        if !t.more {
+        let Some(next) = take_turn(rt, source, turn, &mut input, &mut output)? else {
             break;
-        }
-        t = take_turn(rt, source, t, &mut input, &mut output)?;
+        };
+        turn = next;
     }
     Ok(())
 }
@@ -141,11 +119,8 @@ fn answer_all(rt: &impl Print, source: &mut impl Read, s: RackState) -> io::Resu
 fn main(rt: HostRuntime) -> io::Result<()> {
     let mut file = [0u8; 8193];
     let len = table_bytes(&rt, &mut file);
-    let loaded = rack::load(&file[..len]);
-    let answer = loaded.answer;
-    if answer != 0 {
-        return print_alone(&rt, b't', b'a', b'b', b'.', answer);
+    match rack::load(&file[..len]) {
+        Ok(state) => answer_all(&rt, &mut rt.stdin(), state),
+        Err(refusal) => print_refusal(&rt, *b"tab.", refusal),
     }
-    let state = loaded.state;
-    answer_all(&rt, &mut rt.stdin(), state)
 }

@@ -3,10 +3,11 @@ use mathlib.Core.Path.{refl}
 use Rattle.one_result.proofs.Laws.{one_result}
 use Rattle.one_result.specs.Determined.{Determined}
 use Rattle.report.proofs as report
+use Rattle.report.proofs.Results.{one_report}
 use Rattle.report.specs.contracts as contracts
 
 pub waiting_report_determined : Determined contracts.waiting_report.ended report.waiting_report.Reads.Learnt
-waiting_report_determined κ a x y b c p q = (one_result p q, refl)
+waiting_report_determined κ a x y b c p q = (one_report x y (one_result p q), refl)
 
 pub opening_determined : Determined contracts.opening.ended report.opening.Reads.Learnt
 opening_determined κ a x y b c p q = (one_result p q, refl)

@@ -1,3 +1,4 @@
 pub mod Digits
 pub mod Rows
+pub mod Results
 pub mod Determined

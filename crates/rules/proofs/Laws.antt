@@ -1,5 +1,5 @@
 -- Laws of the rules' definitions. Assumes nothing.
-use Prim.Native.Nat.{ℕ, zero, suc, ◌+◌, ◌-◌, ◌^◌, ◌≤◌, ◌<◌}
+use Prim.Native.Nat.{ℕ, zero, suc, ◌+◌, ◌-◌, ◌^◌, ◌≤◌, ◌<◌, min}
 use native.Mathlib.Omega.{arith}
 use mathlib.Core.Bool.{cond}
 use mathlib.Core.Logic.{◌⊎◌, inl, inr}
@@ -55,3 +55,17 @@ span_top k = go (le_or_lt k 6)
         let most : 2 ^ k ≤ 2 ^ 6 = pow_mono small in
         rw (le-leb k 6 small) (omega arith, (omega arith, omega arith))
     go (inr wide) = rw (lt-leb k 6 wide) (refl, (omega arith, omega arith))
+
+-- at most 64, which is 2 ^ 6
+pub span_within : (k : ℕ) → span_of (min k 6) ≡ min 64 (2 ^ k)
+span_within k = go (le_or_lt k 6)
+  where
+    go : (k ≤ 6) ⊎ (6 < k) → span_of (min k 6) ≡ min 64 (2 ^ k)
+    go (inl small) =
+        let most : 2 ^ k ≤ 2 ^ 6 = pow_mono small in
+        let same : min k 6 ≡ k = omega arith in
+        rw (same, span_of_lem k small) (omega arith)
+    go (inr wide) =
+        let least : 2 ^ 6 ≤ 2 ^ k = pow_mono {i = 6} (omega arith) in
+        let same : min k 6 ≡ 6 = omega arith in
+        rw (same, span_of_lem 6 (omega arith)) (omega arith)

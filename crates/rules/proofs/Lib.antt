@@ -1,3 +1,5 @@
 pub mod Laws
 pub mod Looks
+pub mod Down
+pub mod Folds
 pub mod Determined

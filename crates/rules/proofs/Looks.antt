@@ -1,27 +1,17 @@
--- Laws of looking down: where a look stops, goes on and ends, what it finds, and when it finds nobody. Assumes nothing.
-use Prim.Native.Nat.{ℕ, zero, suc, ◌-◌, ◌≤◌, ◌<◌, min}
+-- Laws of looking down: where a look ends, what it finds, and when it finds nobody. Assumes nothing.
+use Prim.Native.Nat.{ℕ, zero, suc, ◌≤◌, ◌<◌, min}
 use native.Mathlib.Nat.{not-suc-le-zero, le_of_suc-le-suc, eq-or-lt_of_le}
 use native.Mathlib.Omega.{arith}
 use mathlib.Core.Bool.{Bool, true, false, cond, ◌&&◌, and-false}
 use mathlib.Core.Logic.{◌⊎◌, inl, inr}
-use mathlib.Core.Path.{◌≡◌, refl, sym}
+use mathlib.Core.Path.{◌≡◌, refl}
 use lib.Dec.{leb}
 use borrow.Author.Tests.{leb-true, le-leb, lt-leb}
 use Rattle.cards.proofs.Below.{le_or_lt}
 use Rattle.rules.specs.Look.{look_down}
 
 module _ (test : ℕ → Bool) (low : ℕ) where
-  -- from n on, one step
-  pub look_stop : (n : ℕ) → low < n → test (n - 1) ≡ true → look_down test low n ≡ n - 1
-  unfolding look_down
-  look_stop zero h t = absurd (not-suc-le-zero h)
-  look_stop (suc n) h t = let same : suc n - 1 ≡ n = omega arith in rw (le-leb low n (le_of_suc-le-suc h), rw same at t) (sym same)
-
-  pub look_on : (n : ℕ) → low < n → test (n - 1) ≡ false → look_down test low n ≡ look_down test low (n - 1)
-  unfolding look_down
-  look_on zero h f = absurd (not-suc-le-zero h)
-  look_on (suc n) h f = let same : suc n - 1 ≡ n = omega arith in rw (rw same at f, and-false (leb low n), same)
-
+  -- where nothing is left
   pub look_end : (n : ℕ) → n ≤ low → look_down test low n ≡ 0
   unfolding look_down
   look_end zero h = refl

@@ -17,13 +17,16 @@ pub use counts::{grow_counts, one_if, one_waits, some_loser_full};
 pub use sets::{clear_inhibitions, renew_batch};
 
 // Two to the number width; 1 for a width that no table has, so that a caller need not have checked it.
+#[tactic(auto, using(crate::proofs::Laws::span_top))]
 pub fn span(k: u8) -> u16
     ensures { (result ≡ span_of k) × ((1 ≤ result) × (result ≤ 64)) }
 {
-    (cards::top_number(k) as u16) + 1
+    u16::from(cards::top_number(k)) + 1
 }
 
-// How many lines the rule has. A width that no table has gets none, nor does another rule: no settling takes 0 lines.
+// How many lines the rule has, one arm for each rule. A width that no table has gets none, nor does another rule: no settling takes 0 lines. (The rule stays the
+// number that a table has: each of these functions answers for every number, those that no rule has too.)
+#[tactic(auto, using(crate::proofs::Laws::other_rule, crate::proofs::Laws::lines_given_lem), unfolding(crate::specs::Rules::by_rule, crate::specs::Rules::lines_by, crate::specs::Rules::lines_given))]
 pub fn lines_of(k: u8, rule: u8) -> u8
     ensures { result ≡ lines_given k rule }
 {
@@ -40,70 +43,41 @@ pub fn lines_of(k: u8, rule: u8) -> u8
     }
 }
 
-// Whether it is round-robin.
+// Whether it is round-robin. (This and the next three ask one number each: four public functions with a definition each, and one for all would be no shorter.)
 pub fn is_robin(rule: u8) -> bool
     ensures { result ≡ is_robin rule }
 {
-    match rule {
-        0 => false,
-        1 => true,
-        2 => false,
-        3 => false,
-        4 => false,
-        _ => false,
-    }
+    matches!(rule, 1)
 }
 
 // Whether the waiting counts of losers grow.
 pub fn counts_losers(rule: u8) -> bool
     ensures { result ≡ counts_losers rule }
 {
-    match rule {
-        0 => false,
-        1 => false,
-        2 => true,
-        3 => false,
-        4 => false,
-        _ => false,
-    }
+    matches!(rule, 2)
 }
 
 // Whether there is a batch.
 pub fn has_batch(rule: u8) -> bool
     ensures { result ≡ has_batch rule }
 {
-    match rule {
-        0 => false,
-        1 => false,
-        2 => false,
-        3 => true,
-        4 => false,
-        _ => false,
-    }
+    matches!(rule, 3)
 }
 
 // Whether a card is inhibited when it wins.
 pub fn inhibits(rule: u8) -> bool
     ensures { result ≡ inhibits rule }
 {
-    match rule {
-        0 => false,
-        1 => false,
-        2 => false,
-        3 => false,
-        4 => true,
-        _ => false,
-    }
+    matches!(rule, 4)
 }
 
 // Who is next under round-robin, without settling: the first waiting card from the last winner less one to 1, and then, if nobody waits there, from
-// 2 ^ k - 1 down to the last winner itself; 0 if nobody waits at all. It takes any width and any last winner.
+// 2 ^ k - 1 down to the last winner itself; 0 if nobody waits at all, as its definition has it. It takes any width and any
+// last winner.
 pub fn look_round(k: u8, last: u8, waiting: [bool; 64]) -> u8
     ensures { result ≡ look_round (is_in waiting) k last }
 {
-    let below = look_down(&waiting, 1, below_last(last));
-    if below != 0 {
-        return below;
-    }
-    look_down(&waiting, lowest(last), below_span(k))
+    look_down(&waiting, 1, below_last(last))
+        .or_else(|| look_down(&waiting, lowest(last), below_span(k)))
+        .unwrap_or(0)
 }

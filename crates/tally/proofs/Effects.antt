@@ -9,7 +9,7 @@ use lib.ListN.{length, get_or, set}
 use lib.Seq.{get_or-set_same, get_or-set_other}
 use borrow.Author.Tests.{eqb-true, eqb-false, eq-eqb, lt-ltb}
 use Rattle.cards.proofs.TableKnown.{table_range}
-use Rattle.lines.specs.declared.Settled.{Settled}
+use Rattle.lines.specs.Settled.{Settled}
 use Rattle.arbiter.proofs.Formed.{Formed, formed_of, some_wait}
 use Rattle.arbiter.proofs.Numbers.{competitor_waits}
 use Rattle.arbiter.proofs.Refusals.{may_request, MayArbitrate, may_arbitrate}
@@ -18,8 +18,8 @@ use Rattle.arbiter.specs.Arbitrate.{some_loser_full, granted, grant_to, settling
 use Rattle.arbiter.specs.Events.{answered, answered_by, requested, request_refusal, request_of, released, release_refusal, release_of}
 use Rattle.rules.specs.Marks.{is_in}
 use Rattle.arbiter.specs.State.{waits, well_formed}
-use Rattle.arbiter.specs.declared.Outcome.{Outcome}
-use Rattle.arbiter.specs.declared.RackState.{RackState}
+use Rattle.arbiter.specs.Outcome.{Outcome}
+use Rattle.state.specs.declared.RackState.{RackState}
 use Rattle.tally.specs.History.{Happening, asked, granted as grantedTo, released as releasedBy}
 use Rattle.tally.specs.Tally.{is_grant}
 

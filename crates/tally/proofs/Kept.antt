@@ -9,8 +9,8 @@ use borrow.Author.Tests.{eqb-true, ne_eqb}
 use Rattle.arbiter.proofs.Told.{small}
 use Rattle.arbiter.specs.Arbitrate.{event_of}
 use Rattle.arbiter.specs.Events.{answered}
-use Rattle.arbiter.specs.declared.Outcome.{Outcome}
-use Rattle.arbiter.specs.declared.RackState.{RackState}
+use Rattle.arbiter.specs.Outcome.{Outcome}
+use Rattle.state.specs.declared.RackState.{RackState}
 use Rattle.tally.proofs.Laws.{counts}
 use Rattle.tally.specs.Tally.{Square, tally_good, counted_answer, counted_by, counted_of, square_after}
 use Rattle.tally.specs.declared.Tally.{Tally}

@@ -4,12 +4,12 @@ use native.Mathlib.Nat.{mul-le-mul}
 use native.Mathlib.Omega.{arith}
 use mathlib.Core.Bool.{Bool, true, false, cond, not, ◌&&◌, ◌||◌, false≢true}
 use mathlib.Core.Path.{◌≡◌, refl, sym}
-use lib.Dec.{leb, ltb, eqb}
+use lib.Dec.{leb, eqb}
 use borrow.Author.Tests.{leb-true, leb-false, le-leb, lt-ltb, ltb-true, not-false}
 use Rattle.cards.proofs.Below.{all_at, all_each}
 use Rattle.cards.specs.Below.{all_below}
 use Rattle.arbiter.proofs.Tests.{and_left, and_right, both}
-use Rattle.arbiter.specs.declared.Outcome.{Outcome}
+use Rattle.arbiter.specs.Outcome.{Outcome}
 use Rattle.tally.specs.Room.{Small, room_at, SquareRoom, counted_on}
 use Rattle.tally.specs.Tally.{Square, figures_of, row_of, entry_of, figures_small, variance_good, figures_good, card_good, entry_good, row_good, tally_good, counted_answer}
 use Rattle.tally.specs.declared.Figures.{Figures}
@@ -86,15 +86,13 @@ rows_room n q below rows w l = all_each 64 (room_at q w) (λ b m. lt-ltb (entry_
     entry : (b : ℕ) → b < 64 → entry_of q b w ≤ n
     entry b m = leb-true (entry_of q b w) n (all_at 64 (entry_good n (row_of q b)) (all_at 64 (row_good n q) rows b m) w l)
 
+-- a row of a square that has room at w
+pub row_room : (q : Square) (w b : ℕ) → all_below 64 (room_at q w) ≡ true → b < 64 → entry_of q b w < 65535
+row_room q w b h l = ltb-true (entry_of q b w) 65535 (all_at 64 (room_at q w) h b l)
+
 module _ (n : ℕ) (q : Square) (o : Outcome) where
-  pub room_of : counted_on n q o ≡ true → SquareRoom q o
-  room_of h =
-      let front : (ltb n 65535 && ltb o.winner 64) ≡ true = and_left _ (all_below 64 (row_good n q)) h in
-      let below : o.winner < 64 = ltb-true _ 64 (and_right (ltb n 65535) _ front) in
-      record {
-        card = below;
-        room = λ _. rows_room n q (ltb-true n 65535 (and_left _ (ltb o.winner 64) front)) (and_right (ltb n 65535 && ltb o.winner 64) _ h) _ below;
-      }
+  pub room_of : n < 65535 → o.winner < 64 → all_below 64 (row_good n q) ≡ true → SquareRoom q o
+  room_of room below rows = record { card = below; room = λ _. rows_room n q room rows _ below }
 
   pub counted_on_lem : n < 65535 → o.winner < 64 → all_below 64 (row_good n q) ≡ true → counted_on n q o ≡ true
   counted_on_lem room below rows = both _ _ (both _ _ (lt-ltb n 65535 room) (lt-ltb o.winner 64 below)) rows

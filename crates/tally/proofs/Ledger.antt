@@ -15,8 +15,8 @@ use Rattle.arbiter.specs.Arbitrate.{arbitrate_of, event_of}
 use Rattle.arbiter.specs.Events.{answered, request_of, release_of}
 use Rattle.arbiter.specs.Runs.{Event}
 use Rattle.arbiter.specs.State.{waits}
-use Rattle.arbiter.specs.declared.Outcome.{Outcome}
-use Rattle.arbiter.specs.declared.RackState.{RackState}
+use Rattle.arbiter.specs.Outcome.{Outcome}
+use Rattle.state.specs.declared.RackState.{RackState}
 use Rattle.tally.proofs.Effects.{flag_after, is_granted, Effect, asked_below, asked_new, asked_effect, released_effect, granted-known, granted_waited, granted_effect}
 use Rattle.tally.proofs.Happenings.{Follows, sound_more, pending_more, figures_by, figures_more, entry_by, entry_more}
 use Rattle.tally.proofs.History.{Sound, left_at_most, figures_pass}

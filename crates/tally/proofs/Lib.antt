@@ -1,5 +1,6 @@
+pub mod Listed
+pub mod Rows
 pub mod Laws
-pub mod Long
 pub mod Effects
 pub mod Room
 pub mod Sums
@@ -8,4 +9,5 @@ pub mod Happenings
 pub mod Ledger
 pub mod Kept
 pub mod SameRun
+pub mod Results
 pub mod Determined

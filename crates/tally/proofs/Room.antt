@@ -9,7 +9,7 @@ use Rattle.arbiter.proofs.Tests.{and_right}
 use Rattle.arbiter.proofs.Told.{winner_below}
 use Rattle.arbiter.specs.Arbitrate.{event_of}
 use Rattle.arbiter.specs.Events.{answered}
-use Rattle.arbiter.specs.declared.RackState.{RackState}
+use Rattle.state.specs.declared.RackState.{RackState}
 use Rattle.tally.proofs.Laws.{cond_same, rows_of, rows_room, counted_on_lem, counts}
 use Rattle.tally.specs.Room.{SquareRoom, counted_on, square_for}
 use Rattle.tally.specs.Tally.{Square, counted_answer, counted_by, counted_of, square_after}

@@ -10,8 +10,8 @@ use borrow.Author.Tests.{eqb-false, lt-leb}
 use Rattle.arbiter.proofs.Told.{refused_keeps}
 use Rattle.arbiter.specs.Arbitrate.{event_of}
 use Rattle.arbiter.specs.Runs.{Event, after}
-use Rattle.arbiter.specs.declared.Outcome.{Outcome}
-use Rattle.arbiter.specs.declared.RackState.{RackState}
+use Rattle.arbiter.specs.Outcome.{Outcome}
+use Rattle.state.specs.declared.RackState.{RackState}
 use Rattle.cards.specs.declared.Table.{Table}
 use Rattle.tally.proofs.Laws.{cond_same}
 use Rattle.tally.proofs.Ledger.{True, true_start, true_next, true_good}

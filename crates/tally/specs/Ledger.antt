@@ -3,8 +3,8 @@ use Rattle.std.specs.Prelude.{ℕ, cond, List, [], ◌∷◌, eqb}
 use Rattle.arbiter.specs.Arbitrate.{by_letter}
 use Rattle.arbiter.specs.Runs.{Event, outcome_of}
 use Rattle.arbiter.specs.State.{fresh_of}
-use Rattle.arbiter.specs.declared.Outcome.{Outcome}
-use Rattle.arbiter.specs.declared.RackState.{RackState}
+use Rattle.arbiter.specs.Outcome.{Outcome}
+use Rattle.state.specs.declared.RackState.{RackState}
 use Rattle.cards.specs.declared.Table.{Table}
 use Rattle.tally.specs.History.{Happening, asked, granted, released, History}
 use Rattle.tally.specs.Tally.{Square, square_after, counted_of, zero_tally, zero_square}

@@ -1,7 +1,7 @@
 -- Where the figures and the square have room for a grant. Assumes nothing.
 use Rattle.std.specs.Prelude.{ℕ, ◌*◌, ◌≤◌, ◌<◌, Bool, true, cond, ◌&&◌, ◌≡◌, ltb}
 use Rattle.cards.specs.Below.{all_below}
-use Rattle.arbiter.specs.declared.Outcome.{Outcome}
+use Rattle.arbiter.specs.Outcome.{Outcome}
 use Rattle.tally.specs.Tally.{Square, entry_of, row_good, is_grant, square_after}
 use Rattle.tally.specs.declared.Figures.{Figures}
 

@@ -4,11 +4,11 @@ use Rattle.cards.specs.Below.{all_below, tabulate}
 use Rattle.arbiter.specs.Arbitrate.{by_letter, event_of}
 use Rattle.arbiter.specs.Events.{answered}
 use Rattle.arbiter.specs.State.{waits}
-use Rattle.arbiter.specs.declared.Outcome.{Outcome}
-use Rattle.arbiter.specs.declared.RackState.{RackState}
-use Rattle.tally.specs.declared.Counted.{Counted}
+use Rattle.arbiter.specs.Outcome.{Outcome}
+use Rattle.state.specs.declared.RackState.{RackState}
+use Rattle.tally.specs.Counted.{Counted}
 use Rattle.tally.specs.declared.Figures.{Figures}
-use Rattle.tally.specs.declared.Tallied.{Tallied}
+use Rattle.tally.specs.Tallied.{Tallied}
 use Rattle.tally.specs.declared.Tally.{Tally}
 
 abbrev pub no_figures : Figures

@@ -1,70 +1,66 @@
 // What refusal 41 tests, where n events are counted.
-ghost use Rattle.std.specs.Prelude.{true, ◌≡◌, ◌*◌};
+ghost use Rattle.std.specs.Prelude.{◌≤◌, ◌<◌, true, ◌≡◌, ◌*◌};
 ghost use Rattle.cards.specs.Below.{all_below};
-ghost use Rattle.tally.specs.Tally.{figures_small, variance_good, figures_good, card_good, entry_good, row_good};
+ghost use Rattle.tally.specs.Tally.{figures_small, variance_good, figures_good, card_good, entry_good, row_good, tally_good};
 
 use super::{Figures, Tally};
 
 pub(crate) fn squared(x: u16) -> u64
     ensures { result ≡ x * x }
 {
-    (x as u64) * (x as u64)
+    u64::from(x) * u64::from(x)
 }
 
-#[tactic(auto, unfolding(crate::specs::Tally::figures_small))]
-pub(crate) fn figures_small(n: u16, f: Figures) -> bool
-    ensures { result ≡ figures_small n f }
-{
-    (f.grants <= n) & (f.sum <= (n as u32)) & (f.running <= n) & (f.squares <= squared(n))
-}
-
-// The products fit 64 bits only where the figures are small.
-pub(crate) fn variance_good(n: u16, f: Figures) -> bool
-    requires { figures_small n f ≡ true }
-    ensures { result ≡ variance_good f }
-{
-    (f.sum as u64) * (f.sum as u64) <= (f.grants as u64) * f.squares
-}
-
-#[tactic(auto, unfolding(crate::specs::Tally::figures_good))]
-pub(crate) fn figures_good(n: u16, f: Figures) -> bool
-    ensures { result ≡ figures_good n f }
-{
-    if figures_small(n, f) {
-        return variance_good(n, f);
+impl Figures {
+    #[tactic(auto, unfolding(crate::specs::Tally::figures_small))]
+    fn are_small(self, n: u16) -> bool
+        ensures { result ≡ figures_small n self }
+    {
+        self.grants <= n
+            && self.sum <= u32::from(n)
+            && self.running <= n
+            && self.squares <= squared(n)
     }
-    false
+
+    // The products fit 64 bits only where the figures are small.
+    fn have_variance(self, n: u16) -> bool
+        requires { figures_small n self ≡ true }
+        ensures { result ≡ variance_good self }
+    {
+        u64::from(self.sum) * u64::from(self.sum) <= u64::from(self.grants) * self.squares
+    }
+
+    #[tactic(auto, unfolding(crate::specs::Tally::figures_good))]
+    fn are_good(self, n: u16) -> bool
+        ensures { result ≡ figures_good n self }
+    {
+        self.are_small(n) && self.have_variance(n)
+    }
 }
 
-#[tactic(auto, using(cards::proofs::Below::all_none, cards::proofs::Below::all_more))]
-pub(crate) fn cards_good(t: Tally) -> bool
-    ensures { result ≡ all_below 64 (card_good t) }
+fn cards_good(t: &Tally) -> bool
+    ensures { result ≡ all_below 64 (card_good t.now) }
 {
-    let mut good = true;
-    for b in 0..64usize {
-        good = good & figures_good(t.events, t.cards[b]);
-    }
-    good
+    t.cards.iter().all(|figures| figures.are_good(t.events))
 }
 
-#[tactic(auto, using(cards::proofs::Below::all_none, cards::proofs::Below::all_more))]
-pub(crate) fn row_good(n: u16, row: [u16; 64]) -> bool
-    ensures { result ≡ all_below 64 (entry_good n row) }
+fn row_good(n: u16, row: &[u16; 64]) -> bool
+    ensures { result ≡ all_below 64 (entry_good n row.now) }
 {
-    let mut good = true;
-    for c in 0..64usize {
-        good = good & (row[c] <= n);
-    }
-    good
+    row.iter().all(|entry| *entry <= n)
 }
 
-#[tactic(auto, using(cards::proofs::Below::all_none, cards::proofs::Below::all_more))]
-pub(crate) fn rows_good(n: u16, q: [[u16; 64]; 64]) -> bool
-    ensures { result ≡ all_below 64 (row_good n q) }
+pub(crate) fn rows_good(n: u16, q: &[[u16; 64]; 64]) -> bool
+    ensures { result ≡ all_below 64 (row_good n q.now) }
 {
-    let mut good = true;
-    for b in 0..64usize {
-        good = good & row_good(n, q[b]);
+    q.iter().all(|row| row_good(n, row))
+}
+
+impl Tally {
+    #[tactic(auto, unfolding(crate::specs::Tally::tally_good))]
+    pub(crate) fn is_good(&self, q: &[[u16; 64]; 64]) -> bool
+        ensures { result ≡ tally_good self.now q.now }
+    {
+        cards_good(self) && rows_good(self.events, q)
     }
-    good
 }

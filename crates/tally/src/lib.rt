@@ -2,18 +2,24 @@
 #![tactic(auto)]
 
 ghost use Rattle.std.specs.Prelude.{◌≡◌};
+ghost use Rattle.rack.specs.Done.{outcome_in};
+ghost use Rattle.state.specs.declared.RackState.{RackState as State};
+ghost use Rattle.tally.specs.Counted.{as_counted};
 ghost use Rattle.tally.specs.Room.{square_for};
 ghost use Rattle.tally.specs.Tally.{tally_good, counted_of, tallied_of};
+ghost use Rattle.tally.specs.Tallied.{as_tallied};
 
-use answers::counted_answer;
-use arbiter::{Outcome, RackState};
-use checks::{cards_good, rows_good};
+use checks::rows_good;
 use counting::tally_after;
+use order::counted_event;
+use rack::Done;
+use refusals::Refusal;
 use square::square_after;
+use state::RackState;
 
-mod answers;
 mod checks;
 mod counting;
+mod order;
 mod square;
 
 // A card's sums. At most 65,535 events are counted, so that grants, a running wait and the sum of waits stay within 65,535 and the sum of squares
@@ -33,55 +39,59 @@ pub struct Tally {
     pub cards: [Figures; 64],
 }
 
-// A counted event: the next tally, and the outcome.
+// A counted event that is done: the next tally, and the event.
 #[derive(Clone, Copy)]
 pub struct Counted {
     pub tally: Tally,
-    pub outcome: Outcome,
+    pub done: Done,
 }
 
-// A counted event where the tally was lent: the outcome, and the next square.
+// A counted event where the tally was lent: the event, or its refusal, and the next square.
 #[derive(Clone, Copy)]
 pub struct Tallied {
-    pub outcome: Outcome,
+    pub event: Result<Done, Refusal>,
     pub square: [[u16; 64]; 64],
 }
 
 // Whether the tally and the square can be counted on: if not, 41.
-#[tactic(auto, unfolding(crate::specs::Tally::tally_good))]
 pub fn tally_good(t: Tally, q: [[u16; 64]; 64]) -> bool
     ensures { result ≡ tally_good t q }
 {
-    cards_good(t) & rows_good(t.events, q)
+    t.is_good(&q)
 }
 
 // An event, counted by value: 17, 31, 41, and then the event's own refusals.
 #[tactic(auto, unfolding(crate::specs::Tally::counted_of, crate::specs::Tally::counted_by))]
-pub fn event_counted(t: Tally, q: [[u16; 64]; 64], s: RackState, letter: u8, a: u8) -> Counted
-    ensures { result ≡ counted_of t q s letter a }
+pub fn event_counted(
+    t: Tally,
+    q: [[u16; 64]; 64],
+    s: RackState,
+    letter: u8,
+    a: u8,
+) -> Result<Counted, Refusal>
+    ensures { as_counted t s result ≡ counted_of t q s letter a }
 {
-    let o = rack::event(s, letter, a);
-    let n = counted_answer(t, q, o.answer);
-    if n != 0 {
-        let outcome = rack::refused(s, n);
-        return Counted { tally: t, outcome };
-    }
-    let tally = tally_after(t, letter, a, o);
-    Counted { tally, outcome: o }
+    let done = counted_event(&t, &q, rack::event(s, letter, a))?;
+    let tally = tally_after(&t, letter, a, &done);
+    Ok(Counted { tally, done })
 }
 
-// The square after the outcome of an event counted where n events were before it.
-#[tactic(auto, unfolding(crate::specs::Room::square_for))]
-pub fn square_counted(n: u16, q: [[u16; 64]; 64], o: Outcome) -> [[u16; 64]; 64]
-    ensures { result ≡ square_for n q o }
+// The square after an event counted where n events were before it.
+#[tactic(auto, unfolding(crate::specs::Room::square_for, crate::specs::Tally::square_after))]
+pub fn square_counted(n: u16, q: [[u16; 64]; 64], event: Result<Done, Refusal>) -> [[u16; 64]; 64]
+    ensures { (s : State) → result ≡ square_for n q (outcome_in s event) }
 {
-    if (n < 65535) & (o.winner < 64) & rows_good(n, q) {
-        return square_after(q, o);
+    let Ok(done) = event else {
+        return q;
+    };
+    if n < u16::MAX && done.reported.winner < 64 && rows_good(n, &q) {
+        return square_after(q, &done);
     }
     q
 }
 
 // An event, counted: the tally is brought up to date where the caller keeps it, and the square is handed in and handed back.
+#[tactic(auto, unfolding(crate::specs::Tally::square_after))]
 pub fn event_tallied(
     tally: &mut Tally,
     square: [[u16; 64]; 64],
@@ -89,15 +99,19 @@ pub fn event_tallied(
     letter: u8,
     a: u8,
 ) -> Tallied
-    ensures { (result ≡ tallied_of tally.old square s letter a) × (tally.new ≡ (counted_of tally.old square s letter a).tally) }
+    ensures { (as_tallied s result ≡ tallied_of tally.old square s letter a) × (tally.new ≡ (counted_of tally.old square s letter a).tally) }
 {
-    let old = *tally;
-    let new = event_counted(old, square, s, letter, a);
-    let outcome = new.outcome;
-    let next = square_after(square, outcome);
-    *tally = new.tally;
-    Tallied {
-        outcome,
-        square: next,
+    match event_counted(*tally, square, s, letter, a) {
+        Ok(counted) => {
+            *tally = counted.tally;
+            Tallied {
+                event: Ok(counted.done),
+                square: square_after(square, &counted.done),
+            }
+        }
+        Err(refusal) => Tallied {
+            event: Err(refusal),
+            square,
+        },
     }
 }

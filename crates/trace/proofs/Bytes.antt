@@ -5,19 +5,19 @@ use mathlib.Core.Bool.{Bool, true, false, cond, ◌&&◌, ◌||◌, true≢false
 use mathlib.Core.List.{List}
 use mathlib.Core.Path.{◌≡◌, refl, sym, ◌∙◌}
 use lib.Dec.{eqb}
+use Rattle.std.proofs.Common.{Some, None}
 use borrow.Author.Tests.{eqb-true}
 use Rattle.arbiter.proofs.Tests.{and_left, and_right}
 use Rattle.arbiter.proofs.Told.{Small}
 use Rattle.arbiter.specs.Arbitrate.{arbitrate_of, event_of}
 use Rattle.arbiter.specs.Events.{answered, request_of, release_of}
 use Rattle.arbiter.specs.Runs.{Event, outcome_of}
-use Rattle.arbiter.specs.declared.Outcome.{Outcome}
-use Rattle.arbiter.specs.declared.RackState.{RackState}
+use Rattle.arbiter.specs.Outcome.{Outcome}
+use Rattle.state.specs.declared.RackState.{RackState}
 use Rattle.trace.specs.Bytes.{byte_at, event_at, is_asked, is_shaped, is_line, Tells}
-use Rattle.trace.specs.Line.{shaped, line_of, is_malformed, line_outcome, last_digit, text_of, line_text}
+use Rattle.trace.specs.Line.{Line, shaped, line_of, is_malformed, line_outcome, last_digit, text_of, line_text}
 use Rattle.trace.specs.Listing.{line_in, text_in}
-use Rattle.trace.specs.declared.Line.{Line}
-use Rattle.trace.specs.declared.Line.TheVariants.{Request, Arbitrate, Release, Malformed}
+use Rattle.trace.specs.declared.Event.TheVariants.{Request, Arbitrate, Release}
 
 -- ---- a line of a trace
 
@@ -27,7 +27,7 @@ one_letter letter a = rw (eqb-true letter 65 a)
 
 -- what a line with this number is, by which letter it has and by whether the number is 00
 unfoldable line_by : ℕ → Bool → Bool → Bool → Bool → Line
-line_by number q a r none = cond q (Request number) (cond a (cond none Arbitrate Malformed) (cond r (Release number) Malformed))
+line_by number q a r none = cond q (Some (Request number)) (cond a (cond none (Some Arbitrate) None) (cond r (Some (Release number)) None))
 
 by_letter_lem : (s : RackState) (number : ℕ) (q a r none : Bool) → (a ≡ true → r ≡ false) → (q || (a && none) || r) ≡ true
     → line_outcome s (line_by number q a r none)
@@ -47,7 +47,7 @@ asked_fine number false true r false one ok = absurd (true≢false (sym ok ∙ o
 asked_fine number false false true none one ok = refl
 asked_fine number false false false none one ok = absurd (true≢false (sym ok))
 
-not_asked : (number : ℕ) (q a r none : Bool) → (q || (a && none) || r) ≡ false → line_by number q a r none ≡ Malformed
+not_asked : (number : ℕ) (q a r none : Bool) → (q || (a && none) || r) ≡ false → line_by number q a r none ≡ None
 unfolding line_by
 not_asked number true a r none bad = absurd (true≢false bad)
 not_asked number false true r true bad = absurd (true≢false bad)
@@ -69,7 +69,7 @@ module _ (trace : List ℕ) (n : ℕ) where
   asked = line_by event.number (eqb letter 81) (eqb letter 65) (eqb letter 82) (eqb event.number 0)
 
   -- the line, where it has the shape of one
-  as_shaped : line_in trace n ≡ cond (is_shaped trace n) asked Malformed
+  as_shaped : line_in trace n ≡ cond (is_shaped trace n) asked None
   unfolding is_shaped line_in line_of shaped line_by
   as_shaped = rw same_place
 
@@ -91,11 +91,11 @@ module _ (trace : List ℕ) (n : ℕ) where
     line_fine = rw as_asked (asked_fine event.number _ _ _ _ (one_letter letter) of_three)
 
   -- any other line is malformed
-  pub line_malformed : is_line trace n ≡ false → line_in trace n ≡ Malformed
+  pub line_malformed : is_line trace n ≡ false → line_in trace n ≡ None
   unfolding is_line is_asked
   line_malformed bad = as_shaped ∙ by_shape (is_shaped trace n) bad
     where
-      by_shape : (v : Bool) → (v && is_asked event) ≡ false → cond v asked Malformed ≡ Malformed
+      by_shape : (v : Bool) → (v && is_asked event) ≡ false → cond v asked None ≡ None
       by_shape true h = not_asked event.number _ _ _ _ h
       by_shape false h = refl
 

@@ -1,14 +1,14 @@
 -- A trace that is read in chunks of whole lines has the listing that it has in one piece.
 -- Assumes nothing.
 use Prim.Native.Nat.{ℕ, zero, suc, ◌+◌, ◌*◌, ◌/◌, ◌<◌, ◌≤◌}
-use native.Mathlib.Nat.{add-zero, add-suc, add_assoc, min-eq_left}
+use native.Mathlib.Nat.{add-zero, add-suc, add_assoc, min-eq_left, min-le_left, min-le_right}
 use native.Mathlib.Omega.{arith}
 use mathlib.Core.Bool.{Bool, true, false, cond}
 use mathlib.Core.List.{List, [], ◌++◌, append_assoc, append-nil}
 use mathlib.Core.Path.{◌≡◌, refl, sym, ◌∙◌}
 use lib.ListN.{length, get_or, take, drop, length-append, get_or-append}
 use lib.Seq.{get_or-append-add, take_at}
-use Rattle.arbiter.specs.declared.RackState.{RackState}
+use Rattle.state.specs.declared.RackState.{RackState}
 use Rattle.trace.proofs.Laws.{text_length, ended_stays, ran_as}
 use Rattle.trace.specs.Listing.{line_in, text_in, Listed, Listing, with_line, line_at, listing, lines_within, ran_of, Lists, followed_by, then_listing}
 use Rattle.trace.specs.declared.Ran.{Ran}
@@ -159,3 +159,27 @@ module _ (s : RackState) (xs ys : List ℕ) (n : ℕ) (whole : length xs ≡ 5 *
   chunk_ended h =
       let one = ended_before s xs ys n whole (whole_lines ys) (rw first.0 at h) in
       (both.1 ∙ rw (one, first.1), both.0 ∙ rw (one, first.0))
+
+-- ---- what a run has read and written lies in what it was given
+
+listing_lines : (s : RackState) (trace : List ℕ) (n : ℕ) → (listing s trace n).lines ≤ n
+unfolding listing
+listing_lines s trace zero = omega arith
+listing_lines s trace (suc n) = by_end (listing s trace n).ended (listing_lines s trace n)
+  where
+    by_end : (b : Bool) → (listing s trace n).lines ≤ n
+        → (cond b (listing s trace n) (with_line (listing s trace n) (line_at (listing s trace n).state trace n))).lines ≤ suc n
+    by_end true le = omega arith
+    by_end false le = omega arith
+
+module _ (s : RackState) (trace buffer : List ℕ) (r : Ran) (last : List ℕ) (lists : Lists s trace buffer r last) where
+  lines_most : (listing s trace (lines_within trace buffer)).lines ≤ lines_within trace buffer
+  lines_most = listing_lines s trace (lines_within trace buffer)
+
+  pub read_within : r.read ≤ length trace
+  read_within = rw lists.result (omega (arith, lines_most, min-le_left (length trace / 5) (length buffer / 22)))
+
+  pub written_within : r.written ≤ length buffer
+  written_within = rw lists.result (omega (arith, lines_most, min-le_right (length trace / 5) (length buffer / 22)))
+
+pub ruleset ran_within = (read_within, written_within)

@@ -13,3 +13,6 @@ text_determined κ a x y b c p q = (one_result p q, refl)
 
 pub run_determined : Determined contracts.run.ended trace.run.Reads.Learnt
 run_determined κ a x y b c p q = (one_result p.result q.result, λ i. (tt, (tt, (one_result p.left q.left i, tt))))
+
+pub refusal_text_determined : Determined contracts.refusal_text.ended trace.refusal_text.Reads.Learnt
+refusal_text_determined κ a x y b c p q = (one_result p q, refl)

@@ -12,8 +12,8 @@ use Rattle.arbiter.proofs.Runs.{after_more, after-append, grants_more}
 use Rattle.arbiter.proofs.Tests.{and_left, and_right}
 use Rattle.arbiter.proofs.Told.{small, winner_below}
 use Rattle.arbiter.specs.Runs.{Event, outcome_of, next, after, grants}
-use Rattle.arbiter.specs.declared.Outcome.{Outcome}
-use Rattle.arbiter.specs.declared.RackState.{RackState}
+use Rattle.arbiter.specs.Outcome.{Outcome}
+use Rattle.state.specs.declared.RackState.{RackState}
 use Rattle.cards.proofs.Below.{all_at, all_each}
 use Rattle.cards.specs.Below.{all_below}
 use Rattle.trace.proofs.Bytes.{line_is_event, line_fine, line_malformed, line_tells}

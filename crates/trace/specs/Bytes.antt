@@ -2,7 +2,7 @@
 -- who knows no program. Nothing here is made of `line_of`, `line_outcome` or `text_of`; that they mean the same is proved (proofs/Bytes.antt). Assumes nothing.
 use Rattle.std.specs.Prelude.{ℕ, zero, suc, ◌+◌, ◌-◌, ◌*◌, Bool, cond, ◌&&◌, ◌||◌, List, [], ◌∷◌, ◌++◌, ◌≡◌, ltb, leb, eqb, get_or}
 use Rattle.arbiter.specs.Runs.{Event}
-use Rattle.arbiter.specs.declared.Outcome.{Outcome}
+use Rattle.arbiter.specs.Outcome.{Outcome}
 use Rattle.cards.specs.Below.{all_below}
 
 abbrev pub byte_at : List ℕ → ℕ → ℕ

@@ -1,9 +1,8 @@
 -- The listing of a trace, line after line. Assumes nothing.
 use Rattle.std.specs.Prelude.{ℕ, zero, suc, ◌+◌, ◌*◌, ◌/◌, min, Bool, false, cond, List, [], ◌++◌, ◌≡◌, length, get_or, drop}
-use Rattle.arbiter.specs.declared.Outcome.{Outcome}
-use Rattle.arbiter.specs.declared.RackState.{RackState}
-use Rattle.trace.specs.Line.{line_of, is_malformed, line_outcome, line_text}
-use Rattle.trace.specs.declared.Line.{Line}
+use Rattle.arbiter.specs.Outcome.{Outcome}
+use Rattle.state.specs.declared.RackState.{RackState}
+use Rattle.trace.specs.Line.{Line, line_of, is_malformed, line_outcome, line_text}
 use Rattle.trace.specs.declared.Ran.{Ran}
 
 -- line n of a trace, five bytes each

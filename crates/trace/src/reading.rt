@@ -1,42 +1,27 @@
-// A line of the trace: its shape, and its five bytes in the input.
-ghost use Rattle.std.specs.Prelude.{◌+◌, ◌*◌, ◌<◌, ◌≡◌, length};
-ghost use Rattle.trace.specs.Line.{shaped, is_malformed};
-ghost use Rattle.trace.specs.Listing.{line_in};
+// The parts of a line of the trace.
+ghost use Rattle.std.specs.Prelude.{◌≡◌};
+ghost use Rattle.trace.specs.Line.{digit_of, event_by};
 
-use super::{Line, parse};
+use super::Event;
 
-// A space, two decimal digits, a newline.
-#[tactic(auto, unfolding(crate::specs::Line::shaped))]
-pub(crate) fn is_shaped(gap: u8, tens: u8, ones: u8, end: u8) -> bool
-    ensures { result ≡ shaped gap tens ones end }
+// The number of a decimal digit.
+pub(crate) fn digit(byte: u8) -> Option<u8>
+    ensures { result ≡ digit_of byte }
 {
-    (gap == b' ') & ((48 <= tens) & (tens <= 57)) & ((48 <= ones) & (ones <= 57)) & (end == b'\n')
-}
-
-// Whether a line ends the listing.
-pub(crate) fn is_malformed(line: Line) -> bool
-    ensures { result ≡ is_malformed line }
-{
-    match line {
-        Line::Request(_) => false,
-        Line::Arbitrate => false,
-        Line::Release(_) => false,
-        Line::Malformed => true,
+    match byte {
+        b'0'..=b'9' => Some(byte - b'0'),
+        _ => None,
     }
 }
 
-// Line n of the input.
-#[tactic(auto, unfolding(crate::specs::Listing::line_in))]
-pub(crate) fn line_at(input: &[u8], n: usize) -> Line
-    requires { 5 * n + 4 < length input.now }
-    ensures { result ≡ line_in input.now n }
+// The event of a letter with its number, which is 00 for an arbitration.
+pub(crate) fn event_by(letter: u8, number: u8) -> Option<Event>
+    ensures { result ≡ event_by letter number }
 {
-    let at = 5 * n;
-    parse(
-        input[at],
-        input[at + 1],
-        input[at + 2],
-        input[at + 3],
-        input[at + 4],
-    )
+    match letter {
+        b'Q' => Some(Event::Request(number)),
+        b'A' if number == 0 => Some(Event::Arbitrate),
+        b'R' => Some(Event::Release(number)),
+        _ => None,
+    }
 }

@@ -1,7 +1,7 @@
 -- `cards::save_table` meets its contract: refused by the two tests, or the head and the cards after it. Assumes nothing.
 use Rattle.std.proofs.Common.{ℕ, ◌≤◌, ◌-◌, ◌++◌, List, length, take, drop, refl, sym, ap, ◌∙◌, length-drop, arith}
 use borrow.Author.Tests.{lt-leb, le-leb}
-use Rattle.cards.proofs.Copy.{rest}
+use Rattle.cards.proofs.Rest.{rest}
 use Rattle.cards.proofs.SavingLaws.{cards_length, saved_room, after_head}
 use Rattle.cards.proofs.save_table.Goals as goal
 use Rattle.cards.specs.Saving.{card_bytes, head_bytes, saved_of, saved_bytes, saved_length, buffer_after}

@@ -1,13 +1,12 @@
--- `contest::some_first` meets its contract: `some` is the test over the numbers passed. Assumes nothing.
-use Rattle.std.proofs.Common.{arith, ◌≡◌}
-use Rattle.cards.proofs.Below.{any_none, any_more}
+-- `contest::some_first` meets its contract: the test is asked of the numbers from 0 to 63. Assumes nothing.
+use Rattle.std.proofs.Common.{rules, tests}
+use Rattle.std.proofs.lemmas.Iterator.{YieldsList-from_range}
+use Rattle.rules.proofs.Folds.{any_folded}
 use Rattle.contest.proofs.some_first.Goals as goal
-
-pub loop-a-init : goal.loop-a-init
-loop-a-init c = any_none _
-
-pub loop-a-preserved : goal.loop-a-preserved
-loop-a-preserved c = rw (any_more, c.loop-a.invariant, c.goes_first.ensures)
+use Rattle.contest.specs.Shown.{first_at}
 
 pub returns : goal.returns
-returns c = let done : c.loop-a.a ≡ 64 = omega arith in rw (← done) c.loop-a.invariant
+returns c =
+    let s = c.args.s.now in
+    any_folded _ _ _ (first_at s.table.rule s.waiting s.batch s.inhibited) 64 _ _
+    (YieldsList-from_range 0 64 64 (cc) (cc)) (λ some a b q k. search (rules, tests)) c.fold.ensures.ran

@@ -1,9 +1,6 @@
--- `lines::settle` meets its contract: a refusal, or the run. Assumes nothing.
-use Rattle.std.proofs.Common.{sym, ◌∙◌, length}
-use Rattle.lines.proofs.Refusal.{accepted}
+-- The lines are put into a list of numbers as they are. Assumes nothing.
+use Rattle.lines.proofs.Trail.{settles_list}
 use Rattle.lines.proofs.settle.Goals as goal
 
-pub run-requires : goal.run-requires
-run-requires c =
-    accepted c.args.m c.args.numbers.now c.args.start (length c.args.stages.now)
-    (sym c.refusal_of-refused.ensures ∙ c.if-refused-eq0.true)
+pub returns : goal.returns
+returns c = rw (← c.from.ensures, ← c.from-2.ensures) (settles_list _ _ _ _ _ _ c.settle_in.ensures)

@@ -4,4 +4,4 @@ use Rattle.lines.specs.Settle.{some_from}
 use Rattle.lines.proofs.some_from.Given as goal
 
 abbrev pub invariant-loop-i : goal.invariant-loop-i
-invariant-loop-i l = (l.some || some_from l.limit (drop l.i l.numbers)) ≡ some_from l.limit l.numbers
+invariant-loop-i g l = let numbers = g.E.Entry.numbers_of l.numbers in (l.some || some_from l.limit (drop l.i numbers)) ≡ some_from l.limit numbers

@@ -1,15 +1,7 @@
--- `rack::release` meets its contract: the outcome is made again from what the event on lent marks leaves. Assumes nothing.
-use Rattle.std.proofs.Common.{refl, ◌∙◌}
-use Rattle.arbiter.proofs.Leaving.{table_kept, outcome_again}
-use Rattle.arbiter.specs.Events.{answered, release_refusal, released, release_of}
-use Rattle.arbiter.specs.Lent.{marks_of}
-use Rattle.arbiter.specs.State.{well_formed}
+-- `rack::release` meets its contract: a refused one leaves the state that it was given. Assumes nothing.
+use Rattle.std.proofs.Common.{rules}
+use Rattle.rack.proofs.Refused.{release_refused}
 use Rattle.rack.proofs.release.Goals as goal
 
-pub returns : goal.returns
-returns c =
-    let s = c.args.s in
-    c.outcome_of.ensures
-    ∙ outcome_again (release_of s c.args.a) s.table _ _
-    (table_kept (release_refusal (well_formed s) s c.args.a) s (answered (released s c.args.a) 0) refl)
-    (rw (c.well_formed-2.ensures, c.hold_of-hold.ensures) at (c.release_in-r.ensures.left s.table.k s.table.rule (marks_of s)))
+pub returns-in_err-reported : goal.returns-in_err-reported
+returns-in_err-reported c = search (rules, release_refused c.args.s c.release_in.new.s c.args.a)

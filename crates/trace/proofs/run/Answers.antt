@@ -1,60 +1,58 @@
 -- `trace::run` meets its contract: line by line, by the laws of the listing. Assumes nothing.
-use Rattle.std.proofs.Common.{◌≡◌, ◌∙◌, refl, sym, ◌+◌, ◌*◌, ◌/◌, ◌<◌, length, arith}
-use native.Mathlib.Nat.{min-le_left, min-le_right}
-use Rattle.rules.specs.Marks.{marks}
-use Rattle.trace.proofs.Laws.{going_none, all_gone, formed_still, one_further, at_end}
+use Rattle.std.proofs.Common.{◌≡◌, ◌∙◌, sym, [], ◌∷◌, ◌++◌, ◌+◌, ◌*◌, ◌/◌, ◌≤◌, length, length-append, arith}
+use native.Mathlib.Nat.{min-le_left}
+use Rattle.trace.proofs.Laws.{going_none, going_more, ended_here, all_gone, line_put}
+use Rattle.trace.proofs.Turns.{none_taken, taken, all_taken, turned, malformed_is_none}
 use Rattle.trace.proofs.run.Goals as goal
 use Rattle.trace.specs.Listing.{lines_within}
 
 pub loop-n-init : goal.loop-n-init
 loop-n-init c =
-    let in_trace = min-le_left (length c.args.input.now / 5) (length c.args.output.now / 22) in
-    let in_room = min-le_right (length c.args.input.now / 5) (length c.args.output.now / 22) in
-    record {
-      in_trace = omega (arith, c.least-lines.ensures);
-      in_room = omega (arith, c.least-lines.ensures);
-      going = going_none _ _ _;
-      formed = c.well_formed-formed.ensures;
-    }
+    let ahead = none_taken c.zip-n-items.result c.args.input.now c.min-lines.result c.chunks_exact.result
+    c.zip-n-items.ensures.first c.zip-n-items.ensures.second c.chunks_exact.ensures.rest c.chunks_exact.ensures.size in
+    rw c.into_iter-n-iterator.ensures.into_iter_gives
+    (record { can = (tt, omega (arith, ahead.size)); finite = tt; ahead = ahead; going = going_none _ _ _; formed = c.well_formed-formed.ensures })
 
-pub answer_line-r-requires : goal.answer_line-r-requires
-answer_line-r-requires c = c.loop-n.invariant.formed
+pub answer_line-outcome-requires : goal.answer_line-outcome-requires
+answer_line-outcome-requires c = c.loop-n.invariant.formed
 
-pub returns-then-is_malformed : goal.returns-then-is_malformed
-returns-then-is_malformed c =
-    let n = c.loop-n.n in
-    let left = c.answer_line-r.new in
-    let whole = lines_within c.args.input.now c.args.output.now in
-    let below : n < whole = omega (arith, c.least-lines.ensures) in
-    let end = at_end c.args.s.table (marks c.loop-n.waiting c.loop-n.counts c.loop-n.batch c.loop-n.inhibited) c.loop-n.hold c.args.input.now c.loop-n.n
-    c.line_at-line.result c.line_at-line.ensures
-    c.answer_line-r.result (marks left.waiting left.counts left.batch left.inhibited) c.answer_line-r.ensures
-    c.args.s c.args.output.now c.loop-n.output c.loop-n.invariant.going whole below (sym c.is_malformed.ensures ∙ c.if-is_malformed.true)
-    (5 * n + 5) (22 * n + 22) refl refl in
-    record { result = rw (c.left_by.ensures, c.state_of-state.ensures) end.0; left = rw c.put_line.ensures end.1 }
+pub line_text-requires : goal.line_text-requires
+line_text-requires c =
+    let line = taken c.loop-n.n-iterator c.args.input.now _ _ c.loop-n.invariant.ahead c.in-Some.n c.in-Some.line c.next.new.self c.in-Some.ensures.steps in
+    omega (arith, line.size)
+
+pub returns-then-is_none : goal.returns-then-is_none
+returns-then-is_none c =
+    let turn = turned c.loop-n.n-iterator c.args.input.now c.min-lines.result (length c.loop-n.yielded) c.loop-n.state c.in-Some.n c.in-Some.line c.next.new.self
+    c.parse-event.result c.answer_line-outcome.new.s c.answer_line-outcome.result c.line_text.result
+    c.loop-n.invariant.ahead c.in-Some.ensures.steps c.parse-event.ensures c.answer_line-outcome.ensures (c.line_text.ensures c.answer_line-outcome.new.s) in
+    let end = ended_here c.args.s c.args.input.now c.args.output.now _ c.loop-n.state c.loop-n.output c.loop-n.invariant.going _ turn.listed _
+    (line_put _ c.in-Some.n _ c.copy_line.new.to c.loop-n.output turn.number c.copy_line.ensures)
+    (lines_within c.args.input.now c.args.output.now) (rw c.min-lines.ensures at turn.below) (malformed_is_none _ _ c.is_none.ensures ∙ c.if-is_none.true)
+    c.in-Some.n turn.number in
+    record { result = end.0; left = end.1 }
 
 pub loop-n-preserved : goal.loop-n-preserved
 loop-n-preserved c =
-    let inv = c.loop-n.invariant in
-    let left = c.answer_line-r.new in
-    let next = one_further c.args.s.table (marks c.loop-n.waiting c.loop-n.counts c.loop-n.batch c.loop-n.inhibited) c.loop-n.hold c.args.input.now c.loop-n.n
-    c.line_at-line.result c.line_at-line.ensures
-    c.answer_line-r.result (marks left.waiting left.counts left.batch left.inhibited) c.answer_line-r.ensures
-    c.args.s c.args.output.now c.loop-n.output inv.going (sym c.is_malformed.ensures ∙ c.if-is_malformed.false) in
-    let still = formed_still c.args.s.table (marks c.loop-n.waiting c.loop-n.counts c.loop-n.batch c.loop-n.inhibited) c.loop-n.hold c.args.input.now c.loop-n.n
-    c.line_at-line.result c.line_at-line.ensures
-    c.answer_line-r.result (marks left.waiting left.counts left.batch left.inhibited) c.answer_line-r.ensures in
+    let turn = turned c.loop-n.n-iterator c.args.input.now c.min-lines.result (length c.loop-n.yielded) c.loop-n.state c.in-Some.n c.in-Some.line c.next.new.self
+    c.parse-event.result c.answer_line-outcome.new.s c.answer_line-outcome.result c.line_text.result
+    c.loop-n.invariant.ahead c.in-Some.ensures.steps c.parse-event.ensures c.answer_line-outcome.ensures (c.line_text.ensures c.answer_line-outcome.new.s) in
+    let next : length (c.loop-n.yielded ++ (c.in-Some.n, c.in-Some.line) ∷ []) ≡ length c.loop-n.yielded + 1 = simp length-append in
     record {
-      in_trace = inv.in_trace;
-      in_room = inv.in_room;
-      going = rw c.put_line.ensures next;
-      formed = inv.formed ∙ sym still;
+      can = (tt, omega (arith, turn.ahead.size));
+      finite = tt;
+      ahead = rw next turn.ahead;
+      going = rw next
+          (going_more c.args.s c.args.input.now c.args.output.now _ c.loop-n.state c.loop-n.output c.loop-n.invariant.going _ turn.listed _
+          (line_put _ c.in-Some.n _ c.copy_line.new.to c.loop-n.output turn.number c.copy_line.ensures)
+          (malformed_is_none _ _ c.is_none.ensures ∙ c.if-is_none.false));
+      formed = c.loop-n.invariant.formed ∙ sym turn.formed;
     }
 
 pub returns : goal.returns
 returns c =
-    let whole = lines_within c.args.input.now c.args.output.now in
-    let past : c.loop-n.n ≡ whole = omega (arith, c.least-lines.ensures) in
-    let end = all_gone c.args.s c.args.input.now c.args.output.now c.loop-n.n whole _ c.loop-n.output past c.loop-n.invariant.going
-    (5 * c.least-lines.result) (22 * c.least-lines.result) (omega (arith, c.least-lines.ensures)) (omega (arith, c.least-lines.ensures)) in
-    record { result = rw (c.left_by-2.ensures, c.state_of-state-2.ensures) end.0; left = end.1 }
+    let trace = c.args.input.now in
+    let room : 5 * c.min-lines.result ≤ length trace = omega (arith, c.min-lines.ensures, min-le_left (length trace / 5) (length c.args.output.now / 22)) in
+    let past = all_taken c.loop-n.n-iterator trace c.min-lines.result _ c.loop-n.invariant.ahead c.next.new.self room c.in-None.ensures.steps in
+    let end = all_gone c.args.s trace c.args.output.now _ c.min-lines.result _ c.loop-n.state c.loop-n.output past c.min-lines.ensures c.loop-n.invariant.going in
+    record { result = end.0; left = end.1 }

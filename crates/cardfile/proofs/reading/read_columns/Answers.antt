@@ -1,12 +1,12 @@
 -- `cardfile::reading::read_columns` meets its contract: by the test of the directory. Assumes nothing.
 use Rattle.std.proofs.Common.{sym, ◌∙◌}
 use Rattle.cardfile.proofs.reading.read_columns.Goals as goal
-use Rattle.cardfile.specs.Format.{columns_read, refuse_unless}
+use Rattle.cardfile.specs.Format.{columns_read, refuse_unless, refused_with}
 
-pub returns-then-directory_good : goal.returns-then-directory_good
-unfolding columns_read refuse_unless
-returns-then-directory_good c = rw (sym c.directory_good.ensures ∙ c.if-directory_good.true) c.read_two.ensures
+pub returns-then-not-good : goal.returns-then-not-good
+unfolding columns_read refuse_unless refused_with
+returns-then-not-good c = rw (sym c.good.ensures ∙ c.if-not-good.true)
 
-pub returns-else-directory_good : goal.returns-else-directory_good
+pub returns : goal.returns
 unfolding columns_read refuse_unless
-returns-else-directory_good c = rw (sym c.directory_good.ensures ∙ c.if-directory_good.false) c.refused.ensures
+returns c = rw (sym c.good.ensures ∙ c.if-not-good.false) c.read_two.ensures

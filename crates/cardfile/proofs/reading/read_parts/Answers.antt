@@ -1,42 +1,33 @@
 -- `cardfile::reading::read_parts` meets its contract: by the tests of the header; the layout shows that both parts are within the file.
 -- Assumes nothing.
-use Rattle.std.proofs.Common.{◌≡◌, ◌∙◌, true, length, length-drop, sym, arith}
+use Rattle.std.proofs.Common.{◌∙◌, length-drop, sym, arith}
 use lib.ListN.{length-take}
 use native.Mathlib.Nat.{add-sub_cancel_left}
 use Rattle.cardfile.proofs.Laws.{layout_known, width_known}
 use Rattle.cardfile.proofs.reading.read_parts.Goals as goal
-use Rattle.cardfile.specs.Format.{refuse_unless, header_read, layout_good}
-use Rattle.cards.proofs.Copy.{rest}
-
--- what the tests have shown
-layout : (c : goal.Else-not-layout_good) → layout_good c.args.h (length c.args.file.now) ≡ true
-layout c = sym c.layout_good.ensures ∙ c.if-not-layout_good.false
+use Rattle.cardfile.specs.Format.{refuse_unless, refused_with, header_read}
+use Rattle.cards.proofs.Rest.{rest}
 
 pub returns-then-not-edition_good : goal.returns-then-not-edition_good
-unfolding header_read refuse_unless
-returns-then-not-edition_good c = rw (sym c.edition_good.ensures ∙ c.if-not-edition_good.true, c.refused.ensures)
+unfolding header_read refuse_unless refused_with
+returns-then-not-edition_good c = rw (sym c.edition_good.ensures ∙ c.if-not-edition_good.true)
 
 pub returns-then-not-ranges_good : goal.returns-then-not-ranges_good
-unfolding header_read refuse_unless
+unfolding header_read refuse_unless refused_with
 returns-then-not-ranges_good c =
-    rw (
-      sym c.edition_good.ensures ∙ c.if-not-edition_good.false,
-      sym c.ranges_good.ensures ∙ c.if-not-ranges_good.true,
-      c.refused-then-not-ranges_good.ensures,
-    )
+    rw (sym c.edition_good.ensures ∙ c.if-not-edition_good.false, sym c.ranges_good.ensures ∙ c.if-not-ranges_good.true)
 
 pub returns-then-not-layout_good : goal.returns-then-not-layout_good
-unfolding header_read refuse_unless
+unfolding header_read refuse_unless refused_with
 returns-then-not-layout_good c =
     rw (
       sym c.edition_good.ensures ∙ c.if-not-edition_good.false,
       sym c.ranges_good.ensures ∙ c.if-not-ranges_good.false,
       sym c.layout_good.ensures ∙ c.if-not-layout_good.true,
-      c.refused-then-not-layout_good.ensures,
     )
 
 pub slice_bounds-directory-end : goal.slice_bounds-directory-end
-slice_bounds-directory-end c = omega (arith, layout_known _ _ (layout c))
+slice_bounds-directory-end c = omega (arith, layout_known _ _ (sym c.layout_good.ensures ∙ c.if-not-layout_good.false))
 
 pub slice_bounds-records-count : goal.slice_bounds-records-count
 slice_bounds-records-count c = omega (arith, layout_known _ _ (sym c.layout_good.ensures ∙ c.if-not-layout_good.false))

@@ -3,27 +3,38 @@
 use Rattle.std.proofs.Common.{sym, ◌∙◌}
 use Rattle.cardfile.proofs.Laws.{column_inside}
 use Rattle.cardfile.proofs.reading.read_two.Goals as goal
-use Rattle.cardfile.specs.Format.{columns_found, ANUM, SLOT}
+use Rattle.cardfile.specs.Format.{columns_found, refused_with, ANUM, SLOT}
 
-pub read_cards-requires : goal.read_cards-requires
-read_cards-requires c =
-    let known = c.requires in (
-      column_inside _ ANUM _ _ _ known.0 (sym c.find_column.ensures ∙ c.in-At.is),
-      column_inside _ SLOT _ _ _ known.0 (sym c.find_column-in-At.ensures ∙ c.in-At-find_column.is),
-      known.2,
-      known.3,
-    )
+pub returns-in_default : goal.returns-in_default
+unfolding columns_found refused_with
+returns-in_default c =
+    let number = rw c.requires.1 at c.find_column.ensures in
+    rw (sym number ∙ c.in_default.is)
 
-pub returns-in-At-find_column : goal.returns-in-At-find_column
+pub returns-in_default-find_column : goal.returns-in_default-find_column
+unfolding columns_found refused_with
+returns-in_default-find_column c =
+    let number = rw c.requires.1 at c.find_column.ensures in
+    let slot = rw c.requires.1 at c.find_column-2.ensures in
+    rw (sym number ∙ c.in-Some.is, sym slot ∙ c.in_default-find_column.is)
+
+pub invariant_of-read_cards : goal.invariant_of-read_cards
+invariant_of-read_cards c =
+    let known = c.requires in
+    let number = rw known.1 at c.find_column.ensures in
+    let slot = rw known.1 at c.find_column-2.ensures in
+    record {
+      inside = (
+        column_inside _ ANUM _ _ _ known.0 (sym number ∙ c.in-Some.is),
+        column_inside _ SLOT _ _ _ known.0 (sym slot ∙ c.in-Some-find_column.is),
+        known.2,
+      );
+      narrow = known.3;
+    }
+
+pub returns : goal.returns
 unfolding columns_found
-returns-in-At-find_column c =
-    rw (sym c.find_column.ensures ∙ c.in-At.is, sym c.find_column-in-At.ensures ∙ c.in-At-find_column.is) c.read_cards.ensures
-
-pub returns-in-Absent-find_column : goal.returns-in-Absent-find_column
-unfolding columns_found
-returns-in-Absent-find_column c =
-    rw (sym c.find_column.ensures ∙ c.in-At.is, sym c.find_column-in-At.ensures ∙ c.in-Absent-find_column.is) c.refused.ensures
-
-pub returns-in-Absent : goal.returns-in-Absent
-unfolding columns_found
-returns-in-Absent c = rw (sym c.find_column.ensures ∙ c.in-Absent.is) c.refused-in-Absent.ensures
+returns c =
+    let number = rw c.requires.1 at c.find_column.ensures in
+    let slot = rw c.requires.1 at c.find_column-2.ensures in
+    rw (sym number ∙ c.in-Some.is, sym slot ∙ c.in-Some-find_column.is) c.read_cards.ensures

@@ -1,25 +1,19 @@
--- `cards::checks::count_cards` meets its contract: `cards` counts the numbers passed. Assumes nothing.
-use Rattle.std.proofs.Common.{refl, ◌∙◌, arith, rules}
-use native.Mathlib.Nat.{le_antisymm}
-use borrow.Author.Tests.{eq-eqb, ne_eqb}
-use Rattle.cards.proofs.SavingLaws.{count_next}
+-- `cards::checks::count_cards` meets its contract: the slots that are not 0 are counted. Assumes nothing.
+use Rattle.std.proofs.Common.{◌≡◌, ap, take, sym, ◌∙◌, arith, rules, not, eqb}
+use Rattle.std.proofs.lemmas.List.{take_all}
+use Rattle.std.proofs.lemmas.List.Sums.{count_by-le-length}
+use Rattle.std.specs.List.{count_by}
+use Rattle.cards.proofs.Chains.{count_of_list}
 use Rattle.cards.proofs.checks.count_cards.Goals as goal
-use Rattle.cards.proofs.checks.count_cards.Goals.{then-slots-a-ne0, else-slots-a-ne0}
-use Rattle.cards.specs.Below.{sum_below}
-
-pub loop-a-init : goal.loop-a-init
-unfolding sum_below
-loop-a-init c = (search rules, refl)
-
-pub loop-a-preserved : goal.loop-a-preserved
-loop-a-preserved c =
-    let same = c.loop-a.invariant.1 in
-    elim c.if-slots-a-ne0.branch [
-      | then-slots-a-ne0 w ↦ (omega arith, w.cards-is ∙ rw (count_next, ne_eqb _ _ w.if-slots-a-ne0.true, same))
-      | else-slots-a-ne0 w ↦ (omega arith, w.cards-is ∙ rw (count_next, eq-eqb _ _ w.if-slots-a-ne0.false, same) (omega arith))
-    ]
+use Rattle.cards.specs.Table.{has_card}
 
 pub returns : goal.returns
+unfolding has_card
 returns c =
-    let past = le_antisymm c.loop-a.auto.a-end c.loop-a-test.false in
-    (rw past at c.loop-a.invariant.1, omega arith, search rules)
+    let slots = c.args.slots.now in
+    let counted : c.count.result ≡ count_by (λ x. not (eqb x 0)) slots = search rules in
+    let all : take 64 slots ≡ slots = take_all 64 slots (omega (arith, c.told-slots)) in (
+      counted ∙ ap (count_by (λ x. not (eqb x 0))) (sym all) ∙ count_of_list (λ x. not (eqb x 0)) slots 0 64 (omega (arith, c.told-slots)),
+      omega (arith, counted, count_by-le-length (λ x. not (eqb x 0)) slots, c.told-slots),
+      c.told-slots,
+    )

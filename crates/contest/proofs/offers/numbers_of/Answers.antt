@@ -1,16 +1,13 @@
--- `contest::offers::numbers_of` meets its contract: the places passed are filled. Assumes nothing.
-use Rattle.std.proofs.Common.{arith, refl}
-use Rattle.cards.proofs.Filled.{filled_none, filled_more, filled_all}
-use Rattle.contest.specs.Shown.{shown_at}
+-- `contest::offers::numbers_of` meets its contract: it is made number by number. Assumes nothing.
+use Rattle.std.proofs.Common.{rules, ◌∙◌, ◌^◌, ◌≡◌}
+use Rattle.cards.proofs.Chains.{tabulated}
+use Rattle.rules.proofs.Laws.{span_of_lem}
+use Rattle.contest.specs.Shown.{marks_of, shown_at}
 use Rattle.contest.proofs.offers.numbers_of.Goals as goal
 
-pub loop-a-init : goal.loop-a-init
-loop-a-init c k spans = filled_none 64 _ _ refl
-
-pub loop-a-preserved : goal.loop-a-preserved
-unfolding shown_at
-loop-a-preserved c k spans =
-    filled_more 64 _ _ _ _ c.loop-a-test.true (c.loop-a.invariant k spans) (rw (c.shown_by.ensures, c.offer_by-offer.ensures k spans))
-
 pub returns : goal.returns
-returns c k spans = filled_all 64 _ _ _ (omega arith) (c.loop-a.invariant k spans)
+unfolding shown_at
+returns c small =
+    let s = c.args.s.now in
+    let spans : c.span-span.result ≡ 2 ^ s.table.k = c.span-span.ensures.0 ∙ span_of_lem s.table.k small in
+    tabulated _ _ _ 64 0 (shown_at s.table.k s.table.rule s.last c.args.anew (marks_of s)) c.from_fn.ensures.items (λ i y q lt r. search rules)

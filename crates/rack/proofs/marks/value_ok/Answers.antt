@@ -14,14 +14,11 @@ module _ (k rule lines : ℕ) (small : k ≤ 6) (given : lines ≡ lines_given k
   few = omega (arith, by_the_rule, lines_most k rule small)
 
 pub overflow_shl-result : goal.overflow_shl-result
-overflow_shl-result c = few c.args.s.table.k c.args.s.table.rule c.lines_of-m.result c.requires c.lines_of-m.ensures
+overflow_shl-result c = few c.args.s.now.table.k c.args.s.now.table.rule c.lines_of.result c.requires c.lines_of.ensures
 
 pub returns : goal.returns
 returns c =
-    let k = c.args.s.table.k in
-    let rule = c.args.s.table.rule in
-    let lines = c.lines_of-m.result in
-    rw (
-      one_shifted 16 lines (few k rule lines c.requires c.lines_of-m.ensures),
-      by_the_rule k rule lines c.requires c.lines_of-m.ensures,
-    )
+    let k = c.args.s.now.table.k in
+    let rule = c.args.s.now.table.rule in
+    let lines = c.lines_of.result in
+    rw (one_shifted 16 lines (few k rule lines c.requires c.lines_of.ensures), by_the_rule k rule lines c.requires c.lines_of.ensures)

@@ -1,4 +1,4 @@
--- `report::row::put_entry` meets its contract: nothing, or the space and the digits. Assumes nothing.
+-- Nothing, or the space and the digits.
 use Rattle.std.proofs.Common.{◌∙◌, arith}
 use Rattle.report.proofs.Rows.{entry_none, entry_some, nothing_put, entry_put}
 use Rattle.report.proofs.row.put_entry.Goals as goal
@@ -11,4 +11,4 @@ pub returns : goal.returns
 unfolding digits_of
 returns c =
     rw (entry_some c.args.entry c.if-slot-eq0.false)
-    (omega arith, c.put_digits.ensures ∙ entry_put c.args.line.now c.args.at c.args.entry c.requires)
+    (omega arith, rw c.from.ensures at c.put_digits.ensures ∙ entry_put c.args.line.now c.args.at c.args.entry c.requires)

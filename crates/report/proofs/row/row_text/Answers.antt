@@ -1,4 +1,4 @@
--- `report::row::row_text` meets its contract: the number, entry after entry, and the newline. Assumes nothing.
+-- The number, entry after entry, and the newline.
 use Rattle.std.proofs.Common.{◌≡◌, ◌∙◌, get_or, arith}
 use Rattle.report.proofs.Rows.{entry_short, front_first, front_put, next_length, next_put, row_put}
 use Rattle.report.proofs.row.row_text.Goals as goal
@@ -8,7 +8,7 @@ loop-c-init c = record {
   near = omega arith;
   place = front_first c.args.number c.args.slots c.args.row;
   size = omega arith;
-  so_far = front_put c.args.number c.args.slots c.args.row c.args.line.now _ c.put_digits.ensures;
+  so_far = front_put c.args.number c.args.slots c.args.row c.args.line.now _ (rw c.from.ensures at c.put_digits.ensures);
 }
 
 pub loop-c-preserved : goal.loop-c-preserved
@@ -28,4 +28,4 @@ returns c =
     let inv = c.loop-c.invariant in
     let past : c.loop-c.c ≡ 64 = omega arith in
     row_put c.args.number c.args.slots c.args.row c.args.line.now _ c.loop-c.line c.loop-c.at
-    (rw past at inv.place) (omega arith) c.put_digits.ensures (rw past at inv.so_far)
+    (rw past at inv.place) (omega arith) (rw c.from.ensures at c.put_digits.ensures) (rw past at inv.so_far)

@@ -1,13 +1,9 @@
--- `rules::counts::one_more_each` meets its contract: the places passed are filled. Assumes nothing.
-use Rattle.std.proofs.Common.{refl, arith}
-use Rattle.cards.proofs.Filled.{filled_none, filled_more, filled_all}
+-- `rules::counts::one_more_each` meets its contract: it is made number by number. Assumes nothing.
+use Rattle.std.proofs.Common.{rules}
+use Rattle.cards.proofs.Chains.{tabulated}
 use Rattle.rules.proofs.counts.one_more_each.Goals as goal
-
-pub loop-a-init : goal.loop-a-init
-loop-a-init c = filled_none 64 _ _ refl
-
-pub loop-a-preserved : goal.loop-a-preserved
-loop-a-preserved c = filled_more 64 _ _ _ _ c.loop-a-test.true c.loop-a.invariant c.counted.ensures
+use Rattle.rules.specs.Counts.{grown_at}
 
 pub returns : goal.returns
-returns c = filled_all 64 _ _ _ (omega arith) c.loop-a.invariant
+returns c =
+    tabulated _ _ _ 64 0 (grown_at c.args.waiting.now c.args.counts.now) c.from_fn.ensures.items (λ i y q lt r. search rules)

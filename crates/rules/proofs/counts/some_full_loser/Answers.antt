@@ -1,13 +1,11 @@
--- `rules::counts::some_full_loser` meets its contract: `some` is the test over the numbers passed. Assumes nothing.
-use Rattle.std.proofs.Common.{◌≡◌, refl, arith}
-use Rattle.cards.proofs.Below.{any_none, any_more}
+-- `rules::counts::some_full_loser` meets its contract: the test is asked of the numbers from 0 to 63. Assumes nothing.
+use Rattle.std.proofs.Common.{rules, tests}
+use Rattle.std.proofs.lemmas.Iterator.{YieldsList-from_range}
+use Rattle.rules.proofs.Folds.{any_folded}
 use Rattle.rules.proofs.counts.some_full_loser.Goals as goal
-
-pub loop-a-init : goal.loop-a-init
-loop-a-init c = any_none _
-
-pub loop-a-preserved : goal.loop-a-preserved
-loop-a-preserved c = rw (any_more, c.loop-a.invariant) refl
+use Rattle.rules.specs.Counts.{full_loser}
 
 pub returns : goal.returns
-returns c = let done : c.loop-a.a ≡ 64 = omega arith in rw (← done) c.loop-a.invariant
+returns c =
+    any_folded _ _ _ (full_loser c.args.full c.args.waiting.now c.args.counts.now c.args.w) 64 _ _
+    (YieldsList-from_range 0 64 64 (cc) (cc)) (λ some a b q k. search (rules, tests)) c.fold.ensures.ran

@@ -1,13 +1,15 @@
--- `rules::look::look_down` meets its contract: what is left to look at gives what the whole look gives. Assumes nothing.
-use Rattle.std.proofs.Common.{sym, ◌∙◌, arith}
-use Rattle.rules.proofs.Looks.{look_stop, look_on, look_end}
+-- `rules::look::look_down` meets its contract: the numbers come down from n - 1 to low. Assumes nothing.
+use Rattle.std.proofs.Common.{rules, tests, ◌≡◌}
+use Rattle.std.proofs.lemmas.Iterator.Search.{find_from_yields_List}
+use Rattle.rules.proofs.Down.{goes_down, found_down}
 use Rattle.rules.proofs.look.look_down.Goals as goal
-
-pub returns-then-cards-at : goal.returns-then-cards-at
-returns-then-cards-at c = sym (c.loop-at.invariant.1 ∙ look_stop _ _ c.loop-at.at c.loop-at-test.true c.if-cards-at.true)
-
-pub loop-at-preserved : goal.loop-at-preserved
-loop-at-preserved c = (omega arith, c.loop-at.invariant.1 ∙ look_on _ _ c.loop-at.at c.loop-at-test.true c.if-cards-at.false)
+use Rattle.rules.specs.Marks.{is_in}
 
 pub returns : goal.returns
-returns c = sym (c.loop-at.invariant.1 ∙ look_end _ _ c.loop-at.at c.loop-at-test.false)
+returns c =
+    let found =
+    find_from_yields_List (is_in c.args.cards.now) _ _ c.find.result c.find.ensures.ran
+    (goes_down c.args.low c.args.n c.rev.result (cc) (cc)) (λ x b q k. search (rules, tests)) in
+    let down = found_down (is_in c.args.cards.now) c.args.low c.args.n c.find.result found in
+    let same : c.map.result ≡ c.find.result = search rules in
+    record { first = rw same down.0; within = rw same down.1 }

@@ -1,0 +1,9 @@
+-- `cardfile::records::Column::value_is_new` meets its contract: the test of each value before. Assumes nothing.
+use Rattle.std.proofs.Common.{rules, tests}
+use Rattle.cardfile.proofs.records.Column.value_is_new.Goals as goal
+use Rattle.cardfile.specs.Format.{value_is_new}
+use Rattle.cards.proofs.Chains.{all_over}
+
+pub returns : goal.returns
+unfolding value_is_new
+returns c = all_over _ _ _ _ _ c.all.ensures.ran (cc) (λ x b q k. search (rules, tests))

@@ -1,8 +1,0 @@
--- After b rows, whether those below b are good.
-use Rattle.std.proofs.Common.{◌≡◌}
-use Rattle.cards.specs.Below.{all_below}
-use Rattle.tally.specs.Tally.{row_good}
-use Rattle.tally.proofs.checks.rows_good.Given as goal
-
-abbrev pub invariant-loop-b : goal.invariant-loop-b
-invariant-loop-b l = l.good ≡ all_below l.b (row_good l.n l.q)

@@ -1,6 +1,0 @@
--- The bytes passed are the line's, and the others are as they were. Assumes nothing.
-use Rattle.std.proofs.Common.{◌++◌, ◌≡◌, take, drop}
-use Rattle.trace.proofs.writing.put_front.Given as goal
-
-abbrev pub invariant-loop-i : goal.invariant-loop-i
-invariant-loop-i l = l.buf ≡ take l.i l.src ++ drop l.i l.initial.buf
