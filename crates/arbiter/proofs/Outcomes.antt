@@ -22,11 +22,11 @@ use Rattle.state.specs.declared.RackState.{RackState}
 
 -- ---- one outcome is that of one state and one result
 
-answered_as : (s : RackState) (r : Result Reported Refusal) → (as_outcome s r).answer ≡ answer_of r
+pub answered_as : (s : RackState) (r : Result Reported Refusal) → (as_outcome s r).answer ≡ answer_of r
 answered_as s (Ok done) = refl
 answered_as s (Err refusal) = refl
 
-state_as : (s : RackState) (r : Result Reported Refusal) → (as_outcome s r).state ≡ s
+pub state_as : (s : RackState) (r : Result Reported Refusal) → (as_outcome s r).state ≡ s
 state_as s (Ok done) = refl
 state_as s (Err refusal) = refl
 

@@ -1,4 +1,5 @@
-// Arbitration: the settling of the competing cards, and the grant.
+// Arbitration: the settling of the competing cards, and the grant. (A width of at most 6, a card that waits, and a winner below 64 are what `arbitrate_in` and the
+// settling found. No type keeps them, since an event takes every state: it would be made and taken apart at each call.)
 ghost use Rattle.std.specs.Prelude.{◌%◌, ◌^◌, ◌≤◌, ◌<◌, not, MatchOption, Ok, ◌≡◌};
 ghost use Rattle.arbiter.specs.Arbitrate.{arbitrated, some_preferred, value_now, won_by};
 ghost use Rattle.arbiter.specs.Outcome.{as_outcome};

@@ -12,7 +12,7 @@ use borrow.Author.Tests.{eqb-true, ne_eqb}
 use denote.Triple.Clauses.{at_exit}
 use Rattle.std.specs.Prelude.{Result, Ok, Err}
 use Rattle.arbiter.specs.contracts as arbiter_contracts
-use Rattle.arbiter.proofs.Outcomes.{table_kept as keeps_table, arbitrated_table}
+use Rattle.arbiter.proofs.Outcomes.{answered_as, state_as, table_kept as keeps_table, arbitrated_table}
 use Rattle.arbiter.proofs.Told.{Kept, kept_by, arbitrated_kept}
 use Rattle.arbiter.specs.Events.{answered_by, request_refusal, request_by, release_refusal, release_by}
 use Rattle.arbiter.specs.Outcome.{Outcome, as_outcome}
@@ -200,21 +200,13 @@ run_beyond {s} {trace} {buffer} {r} {last} lists =
 -- ---- the events on a lent state
 
 -- what an event tells is of the state that it left
-told_state : (s : RackState) (r : Result Reported Refusal) → (as_outcome s r).state ≡ s
-told_state s (Ok done) = refl
-told_state s (Err refused) = refl
-
 left_by : (last : RackState) (r : Result Reported Refusal) (o : Outcome) → as_outcome last r ≡ o → last ≡ o.state
-left_by last r o e = sym (told_state last r) ∙ ap (λ (p : Outcome). p.state) e
-
-told_answer : (s : RackState) (r : Result Reported Refusal) → answer_of r ≡ (as_outcome s r).answer
-told_answer s (Ok done) = refl
-told_answer s (Err refused) = refl
+left_by last r o e = sym (state_as last r) ∙ ap (λ (p : Outcome). p.state) e
 
 event_kept : (s last : RackState) (r : Result Reported Refusal) (o : Outcome) → Kept s o → as_outcome last r ≡ o → answer_of r ≢ 0 → last ≡ s
 event_kept s last r o kept e refused =
     left_by last r o e
-    ∙ ap (λ (p : Outcome). p.state) (kept (λ done. refused (told_answer last r ∙ ap (λ (p : Outcome). p.answer) e ∙ done)))
+    ∙ ap (λ (p : Outcome). p.state) (kept (λ done. refused (sym (answered_as last r) ∙ ap (λ (p : Outcome). p.answer) e ∙ done)))
 
 -- what holds of the state where the event is done and where it is refused
 either : (Holds : RackState → Type 0) (b : Bool) (x y : Outcome) → Holds x.state → Holds y.state → Holds (cond b x y).state

@@ -113,6 +113,7 @@ fn print_opening(
     rt.write_all(&report::opening(why, answer, events))
 }
 
+// (This and the square's lines go over the slots alike; each has something else to print, and a closure for it would be no shorter.)
 fn print_cards(rt: &impl Print, slots: &[u8; 64], lines: &[CardLine; 64]) -> io::Result<()> {
     for (number, slot) in slots.iter().enumerate() {
         if *slot != 0 {
@@ -189,7 +190,8 @@ fn count_all(
 // The next two functions stand in racktrace too. In a library they would be public functions whose results depend on what a read gives, and each public
 // function of a library here has a law that its contract admits one result.
 
-// Reads until the buffer is full, the source ends or a read fails, and returns how many bytes came.
+// Reads until the buffer is full, the source ends or a read fails, and returns how many bytes came. (No read of std keeps what came before a failure and says how
+// much that is.)
 fn read_some(source: &mut impl Read, buf: &mut [u8]) -> usize
     ensures { result ≤ length buf.new }
 {

@@ -20,7 +20,8 @@ struct Turn {
 // The next two functions stand in rackreport too. In a library they would be public functions whose results depend on what a read gives, and each public
 // function of a library here has a law that its contract admits one result.
 
-// Reads until the buffer is full, the source ends or a read fails, and returns how many bytes came.
+// Reads until the buffer is full, the source ends or a read fails, and returns how many bytes came. (No read of std keeps what came before a failure and says how
+// much that is.)
 fn read_some(source: &mut impl Read, buf: &mut [u8]) -> usize
     ensures { result ≤ length buf.new }
 {

@@ -1,4 +1,4 @@
-// A card's line of the report.
+// A card's line of the report. (That the tally is good is what it counts on; as in the tally, no type keeps it.)
 ghost use Rattle.std.specs.Prelude.{◌<◌, true, ◌≡◌};
 ghost use Rattle.cards.specs.Below.{all_below};
 ghost use Rattle.report.specs.Report.{line_at};

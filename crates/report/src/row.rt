@@ -27,6 +27,7 @@ pub fn row_text(number: u8, slots: [u8; 64], row: [u16; 64], line: &mut [u8; 387
 {
     put_digits(line, 0, 2, u64::from(number));
     let mut at = 2;
+    // (The number counts both lists; zipped, the entries would have no number of their own to be proved by.)
     for (c, slot) in slots.iter().enumerate() {
         at = put_entry(line, at, *slot, row[c]);
     }

@@ -8,7 +8,7 @@ use super::counts_losers;
 use cards::top_number;
 use std::array;
 
-// A mark as a number.
+// A mark as a number: std's conversion, under the name that docs/PROMISES.md has.
 pub fn one_if(marked: bool) -> u8
     ensures { result ≡ cond marked 1 0 }
 {

@@ -1,5 +1,5 @@
 // The rules by their numbers, and what they make of the marks of the cards without a settling: how the sets and the counts change, and who is next.
-// It takes what it reads, and no state.
+// It takes what it reads, and no state. (Each function is promised of any arrays that it is given, and not of a state's alone, as docs/PROMISES.md has it.)
 #![tactic(auto)]
 
 ghost use Rattle.std.specs.Prelude.{◌≤◌, ◌≡◌};

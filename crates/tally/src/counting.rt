@@ -1,4 +1,5 @@
-// What a done event makes of each card's figures.
+// What a done event makes of each card's figures. (That the tally is good and not full is what these count on. No type keeps it, since a tally is taken as given, and
+// 31 and 41 are its refusals.)
 ghost use Rattle.std.specs.Prelude.{ℕ, ◌+◌, ◌≤◌, ◌<◌, true, ◌≡◌};
 ghost use Rattle.cards.specs.Below.{all_below};
 ghost use Rattle.arbiter.specs.Outcome.{as_outcome};

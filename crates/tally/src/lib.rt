@@ -53,6 +53,8 @@ pub struct Tallied {
     pub square: [[u16; 64]; 64],
 }
 
+// The square goes beside the tally, by value and back, and an event by its letter and number: document 02 has them so.
+
 // Whether the tally and the square can be counted on: if not, 41.
 pub fn tally_good(t: Tally, q: [[u16; 64]; 64]) -> bool
     ensures { result ≡ tally_good t q }
