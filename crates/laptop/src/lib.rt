@@ -1,4 +1,5 @@
-// Entries for the commissioning laptop's C program: numbers and byte slices only. The crate laptop_c exports them.
+// Entries for the commissioning laptop's C program: numbers and byte slices only. The crate laptop_c exports them. (They stand
+// twice: a crate is a library or a static one, and the theorems of `promises` speak of this one.)
 #![tactic(auto)]
 
 ghost use Rattle.std.specs.Prelude.{◌≡◌};

@@ -42,14 +42,14 @@ const ANSWER: usize = AFTER + 6;
 
 // The 64 bytes of a record from at on.
 fn numbers_at(bytes: &[u8; RECORD], at: usize) -> [u8; 64]
-    requires { at + 64 ≤ 331 }
+    requires { at + 64 ≤ RECORD }
 {
     array::from_fn(|a| bytes[at + a])
 }
 
 // The same as marks: 0 for no, anything else for yes.
 fn marks_at(bytes: &[u8; RECORD], at: usize) -> [bool; 64]
-    requires { at + 64 ≤ 331 }
+    requires { at + 64 ≤ RECORD }
 {
     numbers_at(bytes, at).map(|number| number != 0)
 }
@@ -84,7 +84,7 @@ pub(crate) fn state_of(bytes: &[u8; RECORD]) -> RackState {
 
 // Puts bytes into a record out from at on.
 fn put(out: &mut [u8; ANSWER], at: usize, bytes: &[u8])
-    requires { at + length bytes.now ≤ 335 }
+    requires { at + length bytes.now ≤ ANSWER }
 {
     out[at..at + bytes.len()].copy_from_slice(bytes);
 }

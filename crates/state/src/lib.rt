@@ -3,7 +3,8 @@
 
 use cards::Table;
 
-// The bus is free, held by the card of that number, or held by the first with the second elected to follow.
+// The bus is free, held by the card of that number, or held by the first with the second elected to follow. (Documents 01 and 02 name the form, and `is_closed`,
+// `won_bus` and `handed_on` go by its cases.)
 #[derive(Clone, Copy)]
 pub enum Bus {
     Free,

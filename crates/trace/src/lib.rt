@@ -35,7 +35,8 @@ pub struct Ran {
     pub ended: bool,
 }
 
-// What a line asks for: its letter, a space, the two digits of a number, and a newline.
+// What a line asks for: its letter, a space, the two digits of a number, and a newline. (The space and the newline are tested apart: of a literal inside a slice
+// pattern a proof learns nothing.)
 #[tactic(auto, using(crate::proofs::Parsed::parsed))]
 pub fn parse(line: &[u8]) -> Option<Event>
     ensures { result ≡ parse_of line.now }
@@ -49,7 +50,8 @@ pub fn parse(line: &[u8]) -> Option<Event>
     event_by(*letter, digit(*tens)? * 10 + digit(*ones)?)
 }
 
-// The 22 bytes of a line of the listing. Most lines name no winner, and the rest of such a line is zeros.
+// The 22 bytes of a line of the listing. Most lines name no winner, and the rest of such a line is zeros: written apart, it takes fewer instructions
+// (docs/PERFORMANCE.md). (The answer is any number, as `text_for` has it.)
 pub fn text(event: [u8; 4], answer: u8, reported: Reported) -> [u8; 22]
     ensures { result ≡ text_for event answer reported.winner reported.lines reported.stages reported.matches }
 {
