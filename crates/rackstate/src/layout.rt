@@ -3,7 +3,6 @@ ghost use Rattle.std.specs.Prelude.{◌+◌, ◌≤◌, length};
 
 use cards::Table;
 use state::{Bus, RackState};
-use std::array;
 
 const K: usize = 0;
 
@@ -44,14 +43,21 @@ const ANSWER: usize = AFTER + 6;
 fn numbers_at(bytes: &[u8; RECORD], at: usize) -> [u8; 64]
     requires { at + 64 ≤ RECORD }
 {
-    array::from_fn(|a| bytes[at + a])
+    let mut numbers = [0; 64];
+    numbers.copy_from_slice(&bytes[at..at + 64]);
+    numbers
 }
 
-// The same as marks: 0 for no, anything else for yes.
+// The same as marks: 0 for no, anything else for yes. (A `map` of the array takes some twenty instructions for each mark, since it makes the array anew
+// one by one; this loop takes sixteen at once.)
 fn marks_at(bytes: &[u8; RECORD], at: usize) -> [bool; 64]
     requires { at + 64 ≤ RECORD }
 {
-    numbers_at(bytes, at).map(|number| number != 0)
+    let mut marks = [false; 64];
+    for (mark, byte) in marks.iter_mut().zip(&bytes[at..at + 64]) {
+        *mark = *byte != 0;
+    }
+    marks
 }
 
 // The bus as a record tells it: free, held, or held with a card elected.
@@ -89,16 +95,25 @@ fn put(out: &mut [u8; ANSWER], at: usize, bytes: &[u8])
     out[at..at + bytes.len()].copy_from_slice(bytes);
 }
 
+// The same for marks: 1 for yes, 0 for no.
+fn put_marks(out: &mut [u8; ANSWER], at: usize, marks: &[bool; 64])
+    requires { at + 64 ≤ ANSWER }
+{
+    for (byte, mark) in out[at..at + 64].iter_mut().zip(marks) {
+        *byte = u8::from(*mark);
+    }
+}
+
 // The state at the front of a record out, 1 for yes and 0 for no, and after it the six bytes about what was asked.
 pub(crate) fn answer_of(s: RackState, about: [u8; 6]) -> [u8; ANSWER] {
     let mut out = [0; ANSWER];
     out[K] = s.table.k;
     out[RULE] = s.table.rule;
     put(&mut out, SLOTS, &s.table.slots);
-    put(&mut out, WAITING, &s.waiting.map(u8::from));
+    put_marks(&mut out, WAITING, &s.waiting);
     put(&mut out, COUNTS, &s.counts);
-    put(&mut out, BATCH, &s.batch.map(u8::from));
-    put(&mut out, INHIBITED, &s.inhibited.map(u8::from));
+    put_marks(&mut out, BATCH, &s.batch);
+    put_marks(&mut out, INHIBITED, &s.inhibited);
     out[LAST] = s.last;
     (out[HELD], out[HOLDER], out[ELECTED]) = match s.bus {
         Bus::Free => (0, 0, 0),
