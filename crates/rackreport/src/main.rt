@@ -88,20 +88,6 @@ struct Count {
     square: [[u16; 64]; 64],
 }
 
-// Counts an event. A refused one changes nothing.
-fn count_event(count: &mut Count, (letter, number): (u8, u8)) -> Result<(), Refusal> {
-    let Tallied { event, square } = tally::event_tallied(
-        &mut count.tally,
-        count.square,
-        count.state,
-        letter,
-        number,
-    );
-    count.square = square;
-    count.state = event?.state;
-    Ok(())
-}
-
 // The first line, with the refusal that there was, if there was one.
 fn print_opening(
     rt: &impl Print,
@@ -160,7 +146,8 @@ fn print_report(
     Ok(())
 }
 
-// A proved loop has to end, and nothing says that the input does: the loop has more turns than any run uses up.
+// Counts the events. A refused one changes nothing. (A proved loop has to end, and nothing says that the input does: the loop has more turns than any run
+// uses up. The tally is called in the loop itself: a function that is lent the whole `Count` cleared and copied the square once more for each event.)
 fn count_all(
     rt: &impl Print,
     source: &mut impl Read,
@@ -174,14 +161,24 @@ fn count_all(
     };
     let mut ended = None;
     for _ in 0..u64::MAX {
-        let Some(event) = next_event(source)? else {
+        let Some((letter, number)) = next_event(source)? else {
             break;
         };
-        if let Err(refusal) = count_event(&mut count, event) {
-            if ends_counting(refusal) {
+        let Tallied { event, square } = tally::event_tallied(
+            &mut count.tally,
+            count.square,
+            count.state,
+            letter,
+            number,
+        );
+        count.square = square;
+        match event {
+            Ok(done) => count.state = done.state,
+            Err(refusal) if ends_counting(refusal) => {
                 ended = Some(refusal);
                 break;
             }
+            Err(_) => {}
         }
     }
     print_report(rt, &count, ended, with_square)

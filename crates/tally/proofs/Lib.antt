@@ -1,4 +1,5 @@
 pub mod Listed
+pub mod Folds
 pub mod Rows
 pub mod Laws
 pub mod Effects

