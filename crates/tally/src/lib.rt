@@ -2,10 +2,9 @@
 #![tactic(auto)]
 
 ghost use Rattle.std.specs.Prelude.{◌≡◌};
-ghost use Rattle.rack.specs.Done.{outcome_in};
-ghost use Rattle.state.specs.declared.RackState.{RackState as State};
+ghost use Rattle.arbiter.specs.Outcome.{Outcome};
 ghost use Rattle.tally.specs.Counted.{as_counted};
-ghost use Rattle.tally.specs.Room.{square_for};
+ghost use Rattle.tally.specs.Room.{StandsFor, square_for};
 ghost use Rattle.tally.specs.Tally.{tally_good, counted_of, tallied_of};
 ghost use Rattle.tally.specs.Tallied.{as_tallied};
 
@@ -78,10 +77,14 @@ pub fn event_counted(
     Ok(Counted { tally, done })
 }
 
-// The square after an event counted where n events were before it.
+// The square after an event counted where n events were before it. However a caller tells a refusal, the square is handed back as given.
 #[tactic(auto, unfolding(crate::specs::Room::square_for, crate::specs::Tally::square_after))]
-pub fn square_counted(n: u16, q: [[u16; 64]; 64], event: Result<Done, Refusal>) -> [[u16; 64]; 64]
-    ensures { (s : State) → result ≡ square_for n q (outcome_in s event) }
+pub fn square_counted<E: Copy>(
+    n: u16,
+    q: [[u16; 64]; 64],
+    event: Result<Done, E>,
+) -> [[u16; 64]; 64]
+    ensures { (o : Outcome) → StandsFor event o → result ≡ square_for n q o }
 {
     let Ok(done) = event else {
         return q;
