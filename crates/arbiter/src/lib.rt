@@ -21,7 +21,10 @@ use state::RackState;
 
 mod arbitration;
 mod marks;
+mod parts;
 mod sets;
+
+pub use parts::{Hold, state_of};
 
 // What a done event reports: of a grant the winner, the settled lines, the stages and how many competing numbers equal the lines.
 #[derive(Clone, Copy)]
