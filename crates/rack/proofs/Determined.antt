@@ -26,6 +26,9 @@ release_determined κ a x y b c p q = (one_done a.0 x y (one_result p q), refl)
 pub arbitrate_determined : Determined contracts.arbitrate.ended rack.arbitrate.Reads.Learnt
 arbitrate_determined κ a x y b c p q = (one_done a.0 x y (one_result p q), refl)
 
+pub refused_determined : Determined contracts.refused.ended rack.refused.Reads.Learnt
+refused_determined κ a x y b c p q = let one = one_result p q in ((λ i. ((one i).state, (one i).answer)), refl)
+
 pub event_determined : Determined contracts.event.ended rack.event.Reads.Learnt
 event_determined κ a x y b c p q = (one_done a.0 x y (one_result p q), refl)
 

@@ -1,5 +1,5 @@
 pub mod Formed
 pub mod Recount
-pub mod Refused
+pub mod Refusals
 pub mod Results
 pub mod Determined

@@ -4,7 +4,7 @@
 
 ghost use Rattle.std.specs.Prelude.{◌≡◌, length};
 ghost use Rattle.arbiter.specs.Arbitrate.{arbitrate_of, event_of};
-ghost use Rattle.arbiter.specs.Events.{request_of, release_of};
+ghost use Rattle.arbiter.specs.Events.{answered, request_of, release_of};
 ghost use Rattle.arbiter.specs.Next.{next_of};
 ghost use Rattle.arbiter.specs.NextWinner.{as_next_winner};
 ghost use Rattle.arbiter.specs.State.{well_formed, fresh_of};
@@ -104,6 +104,13 @@ pub fn arbitrate(s: RackState) -> Result<Done, Refusal>
     let mut state = s;
     let reported = arbitrate_in(well_formed(s), &mut state)?;
     Ok(Done { state, reported })
+}
+
+// A refusal by any number, those too that no `Refusal` has: the state as it was given, and the number. Of a grant it tells nothing.
+pub fn refused(s: RackState, number: u8) -> (RackState, u8)
+    ensures { answered result.0 result.1 ≡ answered s number }
+{
+    (s, number)
 }
 
 // An event by its letter: Q, A or R. Any other letter is refused. (The letter is matched as the trace has it: `event_of` answers for every letter.)

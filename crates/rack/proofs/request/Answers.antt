@@ -1,6 +1,6 @@
 -- `rack::request` meets its contract: a refused one leaves the state that it was given. Assumes nothing.
 use Rattle.std.proofs.Common.{rules}
-use Rattle.rack.proofs.Refused.{request_refused}
+use Rattle.rack.proofs.Refusals.{request_refused}
 use Rattle.rack.proofs.request.Goals as goal
 
 pub returns-in_err-reported : goal.returns-in_err-reported
