@@ -3,7 +3,10 @@ use Prim.Native.Nat.{ℕ, zero, suc, ◌+◌, ◌*◌, ◌/◌, ◌<◌}
 use native.Mathlib.Omega.{arith}
 use mathlib.Core.List.{List, [], ◌∷◌, ◌++◌}
 use mathlib.Core.Path.{◌≡◌, refl, ap, ◌∙◌}
+use mathlib.Core.Bool.{or-true}
+use lib.Dec.{eqb}
 use lib.ListN.{length, drop}
+use borrow.Author.Tests.{lt-ltb}
 use Rattle.std.proofs.Common.{Ok, Err}
 use Rattle.laptop.proofs.Pairs.{put_next}
 use Rattle.laptop.specs.Settle.{SettlesBytes, code_or, bytes_or}
@@ -50,6 +53,11 @@ module _ (m : ℕ) (ws : List ℕ) (start : ℕ) where
   told_refused : (why : Refusal) (n : ℕ) → as_settled (Err why) ≡ settled_or n m ws start → 100 + number_of why ≡ code_or n m ws start
   told_refused why zero is = absurd (omega (arith, some_number why, ap (λ (r : Settled). r.answer) is))
   told_refused why (suc refused) is = ap (λ (r : Settled). 100 + r.answer) is
+
+-- more lines than 12 are refused, whatever else is lent
+pub refused_wide : (m : ℕ) (ws : List ℕ) (start room : ℕ) → 12 < m → refusal m ws start room ≡ 21
+unfolding refusal
+refused_wide m ws start room wide = rw (lt-ltb 12 m wide, or-true (eqb m 0))
 
 module _ (m : ℕ) (numbers : List ℕ) (start : ℕ) (buffer last : List ℕ) where
   pub bytes_done : (s : Settling) → SettlesIn put_word m (words numbers) start (length (words buffer)) buffer (as_settled (Ok s)) last
