@@ -8,6 +8,7 @@ use lib.Dec.{eqb}
 use lib.ListN.{length, drop}
 use borrow.Author.Tests.{lt-ltb}
 use Rattle.std.proofs.Common.{Ok, Err}
+use Rattle.std.proofs.lemmas.List.{set-get_or}
 use Rattle.laptop.proofs.Pairs.{put_next}
 use Rattle.laptop.specs.Settle.{SettlesBytes, code_or, bytes_or}
 use Rattle.laptop.specs.Words.{bytes}
@@ -16,7 +17,7 @@ use Rattle.lines.proofs.Stages.{stages_le}
 use Rattle.lines.proofs.Trail.{trail-length}
 use Rattle.lines.proofs.Words.{words-length}
 use Rattle.lines.specs.Settle.{SettlesIn, settled_or, put_trail, put_or, refusal}
-use Rattle.lines.specs.Settled.{Settled, as_settled}
+use Rattle.lines.specs.Settled.{as_settled}
 use Rattle.lines.specs.Settling.{lines_at, stages, trail}
 use Rattle.lines.specs.Words.{words, put_word}
 use Rattle.lines.specs.declared.Settling.{Settling}
@@ -38,21 +39,24 @@ module _ (m : ℕ) (ws : List ℕ) (start : ℕ) where
       ap (λ (b : List ℕ). put_word b (suc t) new) (trail_put t buffer (omega arith))
       ∙ rw long at (put_next (trail m ws start t) buffer new (omega (arith, long)))
 
-  module _ (buffer last : List ℕ) where
-    left_bytes : (n : ℕ) → refusal m ws start (length buffer / 2) ≡ n → put_or put_word n m ws start buffer ≡ bytes_or n m ws start buffer
-    left_bytes zero none =
-        let ok = accepted m ws start (length buffer / 2) none in
-        trail_put (stages m ws start) buffer (omega (arith, stages_le m ws start ok.fits ok.small, ok.enough))
-    left_bytes (suc refused) is = refl
+  pub left_bytes : (buffer : List ℕ) (n : ℕ) → refusal m ws start (length buffer / 2) ≡ n → put_or put_word n m ws start buffer ≡ bytes_or n m ws start buffer
+  left_bytes buffer zero none =
+      let ok = accepted m ws start (length buffer / 2) none in
+      trail_put (stages m ws start) buffer (omega (arith, stages_le m ws start ok.fits ok.small, ok.enough))
+  left_bytes buffer (suc refused) is = refl
 
   -- what C is told of a settling that is done, and of one that is refused
-  told_done : (s : Settling) (n : ℕ) → as_settled (Ok s) ≡ settled_or n m ws start → s.stages + 256 * s.matches ≡ code_or n m ws start
-  told_done s zero is = ap (λ (r : Settled). r.stages + 256 * r.matches) is
-  told_done s (suc refused) is = absurd (omega (arith, ap (λ (r : Settled). r.answer) is))
+  pub told_done : (n : ℕ) → (settled_or n m ws start).answer ≡ 0
+      → code_or n m ws start ≡ (settled_or n m ws start).stages + 256 * (settled_or n m ws start).matches
+  told_done zero none = refl
+  told_done (suc refused) none = absurd (omega (arith, none))
 
-  told_refused : (why : Refusal) (n : ℕ) → as_settled (Err why) ≡ settled_or n m ws start → 100 + number_of why ≡ code_or n m ws start
-  told_refused why zero is = absurd (omega (arith, some_number why, ap (λ (r : Settled). r.answer) is))
-  told_refused why (suc refused) is = ap (λ (r : Settled). 100 + r.answer) is
+  pub told_refused : (n : ℕ) → 0 < (settled_or n m ws start).answer → code_or n m ws start ≡ 100 + (settled_or n m ws start).answer
+  told_refused zero some = absurd (omega (arith, some))
+  told_refused (suc refused) some = refl
+
+-- what the entry that settles has to know; a byte that is put back where it stood changes nothing
+pub ruleset told = (left_bytes, told_done, told_refused, words-length, some_number, set-get_or)
 
 -- more lines than 12 are refused, whatever else is lent
 pub refused_wide : (m : ℕ) (ws : List ℕ) (start room : ℕ) → 12 < m → refusal m ws start room ≡ 21
@@ -62,18 +66,8 @@ refused_wide m ws start room wide = rw (lt-ltb 12 m wide, or-true (eqb m 0))
 module _ (m : ℕ) (numbers : List ℕ) (start : ℕ) (buffer last : List ℕ) where
   pub bytes_done : (s : Settling) → SettlesIn put_word m (words numbers) start (length (words buffer)) buffer (as_settled (Ok s)) last
       → SettlesBytes m numbers start buffer (s.stages + 256 * s.matches) last
-  bytes_done s settles =
-      let half = rw (words-length buffer) at settles in
-      record {
-        result = told_done m (words numbers) start s _ half.result;
-        left = half.left ∙ left_bytes m (words numbers) start buffer last _ refl;
-      }
+  bytes_done s settles = grind (arith, told)
 
   pub bytes_refused : (why : Refusal) → SettlesIn put_word m (words numbers) start (length (words buffer)) buffer (as_settled (Err why)) last
       → SettlesBytes m numbers start buffer (100 + number_of why) last
-  bytes_refused why settles =
-      let half = rw (words-length buffer) at settles in
-      record {
-        result = told_refused m (words numbers) start why _ half.result;
-        left = half.left ∙ left_bytes m (words numbers) start buffer last _ refl;
-      }
+  bytes_refused why settles = grind (arith, told)

@@ -13,6 +13,7 @@ mod table;
 
 // Settles m lines, which carry `start`, for C: t plus 256 times how many numbers equal the settled lines, or 100 plus the refusal. The competing numbers and
 // the lines after each stage are bytes, two for each, low byte first.
+#[tactic(auto, using(crate::proofs::Settle::told))]
 pub fn rack_settle(m: u32, numbers: &[u8], stages: &mut [u8], start: u32) -> u32
     ensures { SettlesBytes m numbers.now start stages.old result stages.new }
 {
