@@ -1,5 +1,4 @@
 pub mod Listed
-pub mod Folds
 pub mod Rows
 pub mod Laws
 pub mod Effects

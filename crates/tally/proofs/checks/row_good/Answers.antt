@@ -1,7 +1,7 @@
 -- Every entry of the row is tested.
 use Rattle.std.proofs.Common.{rules, tests, ◌∙◌, nat_le}
 use Rattle.std.proofs.lemmas.Iterator.{YieldsList-from_slice}
-use Rattle.tally.proofs.Folds.{all_folded}
+use Rattle.cards.proofs.Folds.{all_folded}
 use Rattle.tally.proofs.Listed.{all_listed}
 use Rattle.tally.proofs.checks.row_good.Goals as goal
 
