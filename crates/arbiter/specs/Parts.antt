@@ -17,3 +17,7 @@ state_of table m hold = record {
   value = hold.value;
   waiters = hold.waiters;
 }
+
+-- what is left of a state beside its table and its marks
+abbrev pub hold_of : RackState → Hold
+hold_of s = record { last = s.last; bus = s.bus; value = s.value; waiters = s.waiters }
