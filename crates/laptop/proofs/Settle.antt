@@ -55,7 +55,8 @@ module _ (m : ℕ) (ws : List ℕ) (start : ℕ) where
   told_refused zero some = absurd (omega (arith, some))
   told_refused (suc refused) some = refl
 
--- what the entry that settles has to know; a byte that is put back where it stood changes nothing
+-- what the entry that settles has to know, and that a byte put back where it stood changes nothing: an edit of must-fail/ that puts another is refused for that
+-- byte
 pub ruleset told = (left_bytes, told_done, told_refused, words-length, some_number, set-get_or)
 
 -- more lines than 12 are refused, whatever else is lent

@@ -7,9 +7,12 @@ ghost use Rattle.cardfile.specs.Format.{load_table_of};
 ghost use Rattle.laptop.specs.Settle.{SettlesBytes};
 ghost use Rattle.laptop.specs.Table.{GivesTable};
 
+use settling::settle_bytes;
 use table::put_table;
 
+mod settling;
 mod table;
+mod words;
 
 // Settles m lines, which carry `start`, for C: t plus 256 times how many numbers equal the settled lines, or 100 plus the refusal. The competing numbers and
 // the lines after each stage are bytes, two for each, low byte first.
@@ -17,7 +20,7 @@ mod table;
 pub fn rack_settle(m: u32, numbers: &[u8], stages: &mut [u8], start: u32) -> u32
     ensures { SettlesBytes m numbers.now start stages.old result stages.new }
 {
-    match lines::settle_in(m, start, numbers, stages) {
+    match settle_bytes(m, start, numbers, stages) {
         Ok(done) => u32::from(done.stages) + 256 * u32::from(done.matches),
         Err(refusal) => 100 + u32::from(refusal.number()),
     }
